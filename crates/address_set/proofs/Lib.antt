@@ -1,0 +1,3 @@
+-- What holds of the map, beside its functions' own proofs.
+pub mod Bit
+pub mod Laws

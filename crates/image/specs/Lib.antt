@@ -1,0 +1,3 @@
+-- Addresses and bytes of an image.
+pub mod Image
+pub mod Answers

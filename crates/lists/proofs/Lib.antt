@@ -1,0 +1,6 @@
+-- The laws of those lists.
+pub mod Tests
+pub mod Sets
+pub mod Scan
+pub mod Stack
+pub mod Zeros

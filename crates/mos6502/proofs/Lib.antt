@@ -1,0 +1,4 @@
+-- The laws behind `decode` and `Mode::len`.
+pub mod Manual
+pub mod Table
+pub mod Arms

@@ -1,0 +1,3 @@
+-- What reachable means, and the walk.
+pub mod Reach
+pub mod Walk
