@@ -1,0 +1,2 @@
+-- The laws of causes.
+pub mod Numbers

@@ -1,0 +1,2 @@
+-- What the contracts of `cause` cite.
+pub mod Cause

@@ -1,0 +1,3 @@
+-- The laws of the extent.
+pub mod Range
+pub mod Hull

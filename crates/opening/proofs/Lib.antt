@@ -1,0 +1,2 @@
+-- The laws of the first tests.
+pub mod First

@@ -1,0 +1,2 @@
+-- The tests that come before any walk.
+pub mod Opening

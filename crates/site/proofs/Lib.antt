@@ -1,0 +1,4 @@
+-- The laws of a site.
+pub mod Assembly
+pub mod Size
+pub mod Covering

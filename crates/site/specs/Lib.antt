@@ -1,0 +1,3 @@
+-- What stands at one address.
+pub mod Site
+pub mod Named

@@ -1,0 +1,6 @@
+-- The theorems on spans.
+pub mod Unique
+pub mod Demand2
+pub mod Verdict
+pub mod Computed
+pub mod Outcome

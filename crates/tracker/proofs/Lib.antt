@@ -1,0 +1,2 @@
+-- The laws of the tracker.
+pub mod Passage

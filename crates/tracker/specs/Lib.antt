@@ -1,0 +1,2 @@
+-- What the tracker knows after a run of bytes.
+pub mod Track

@@ -1,0 +1,4 @@
+-- How the code's walk stands to the machine, what its map holds, and the laws of the three rules.
+pub mod Link
+pub mod Members
+pub mod Rules

@@ -1,0 +1,80 @@
+-- The rules: following control refuses nothing, so that a site's step refuses exactly where its rule says so.
+use mathlib.Core.Path.{_≡_, refl}
+use mathlib.Core.Logic.{_≢_}
+use mathlib.Core.Bool.{Bool, true, false, cond, false≢true}
+use mathlib.Core.List.{List}
+use Prim.Native.Nat.{ℕ}
+use Rattle.mos6502.specs.declared.Decoded.{Decoded}
+use Rattle.mos6502.specs.declared.Flow.{Flow}
+use Rattle.mos6502.specs.declared.Flow.the-variants.{Next, Jump, Call, Branch, Stop, Refuse}
+use Rattle.image.specs.declared.Address.{Address}
+use Rattle.image.specs.declared.Address.the-variants.{At, Nowhere}
+use Rattle.image.specs.Image.{inside}
+use Rattle.site.specs.declared.Causes.{Causes}
+use Rattle.site.specs.declared.Causes.the-variants.{Clear, One, Two}
+use Rattle.site.specs.Site.{siteIn}
+use Rattle.reach.specs.Reach.{refuses}
+use Rattle.reach.proofs.Complete.{Fine, fine≢refuses}
+use Rattle.walk.specs.declared.Step.{Step}
+use Rattle.walk.specs.declared.Step.the-variants.{Ends, Refuses, Goes, Forks}
+use Rattle.walk.specs.declared.Rule.the-variants.{Span, Diagnosis}
+use Rattle.walk.specs.Step.{goesTo, forksTo, follow, isClear, isPassable, stepBy, asStep}
+use Rattle.walk.specs.Walked.{stepIn}
+
+goes-fine : (a : Address) → Fine (asStep (goesTo a))
+goes-fine (At a) = tt
+goes-fine Nowhere = tt
+
+forks-fine : (inside : ℕ → Bool) (next target : Address) → Fine (asStep (forksTo inside next target))
+forks-fine inside (At n) (At t) = by (inside t)
+  where
+    by : (b : Bool) → Fine (asStep (cond b (Forks n t) (Goes n)))
+    by true = tt
+    by false = tt
+forks-fine inside (At n) Nowhere = tt
+forks-fine inside Nowhere target = tt
+
+follow-fine : (inside : ℕ → Bool) (f : Flow) (next target : Address) → Fine (asStep (follow inside f next target))
+follow-fine inside Next next target = goes-fine next
+follow-fine inside Jump next target = goes-fine target
+follow-fine inside Call next target = forks-fine inside next target
+follow-fine inside Branch next target = forks-fine inside next target
+follow-fine inside Stop next target = tt
+follow-fine inside Refuse next target = tt
+
+-- ── the span's rule ──
+module _ (class : ℕ → Decoded) (image : List ℕ) (load last a : ℕ) where
+  pub clear-goes-on : isClear (siteIn class image load last a .causes) ≡ true → stepIn class Span image load last a ≢ refuses
+  unfolding stepIn stepBy
+  clear-goes-on e =
+      let s = siteIn class image load last a in
+      rw e (fine≢refuses (follow-fine (inside load last) (s .flow) (s .next) (s .target)))
+
+  pub goes-on-clear : stepIn class Span image load last a ≢ refuses → isClear (siteIn class image load last a .causes) ≡ true
+  unfolding stepIn stepBy
+  goes-on-clear n = by (isClear (siteIn class image load last a .causes)) _ n
+    where
+      by : (b : Bool) (x : Step) → asStep (cond b x Refuses) ≢ refuses → b ≡ true
+      by true x n = refl
+      by false x n = absurd (n refl)
+
+  -- ── beside the diagnosis's rule, which refuses nothing ──
+  pub diagnosis-goes-on : stepIn class Diagnosis image load last a ≢ refuses
+  unfolding stepIn stepBy
+  diagnosis-goes-on =
+      let s = siteIn class image load last a in
+      fine≢refuses (by (isPassable (s .causes)) (follow (inside load last) (s .flow) (s .next) (s .target)) (follow-fine (inside load last) (s .flow) (s .next) (s .target)))
+    where
+      by : (b : Bool) (x : Step) → Fine (asStep x) → Fine (asStep (cond b x Ends))
+      by true x f = f
+      by false x f = tt
+
+  -- at a site without a cause the two rules have one step
+  pub clear-same : isClear (siteIn class image load last a .causes) ≡ true → stepIn class Span image load last a ≡ stepIn class Diagnosis image load last a
+  unfolding stepIn stepBy
+  clear-same e = by (siteIn class image load last a .causes) _ e
+    where
+      by : (c : Causes) (x : Step) → isClear c ≡ true → asStep (cond (isClear c) x Refuses) ≡ asStep (cond (isPassable c) x Ends)
+      by Clear x e = refl
+      by (One c) x e = absurd (false≢true e)
+      by (Two c d) x e = absurd (false≢true e)

@@ -1,0 +1,3 @@
+-- The walk of an image, under one of three rules.
+pub mod Step
+pub mod Walked
