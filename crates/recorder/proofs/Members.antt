@@ -1,0 +1,60 @@
+-- A loop over the map's members takes their pairs and records address by address: what a search finds begins the list of the members that are left.
+use mathlib.Core.Path.{_≡_, ap, _∙_}
+use mathlib.Core.List.{List, [], _++_, map-append}
+use Prim.Native.Nat.{ℕ, suc, _+_, _-_}
+use lib.ListN.{length, length-append, length-map}
+use Rattle.lists.specs.Lists.{scan}
+use Rattle.mos6502.specs.Class.{manualClass}
+use Rattle.image.specs.declared.Address.{Address}
+use Rattle.address_set.specs.declared.Found.{Found}
+use Rattle.address_set.specs.declared.Found.the-variants.{At, Nothing}
+use Rattle.address_set.specs.Map.{has}
+use Rattle.address_set.specs.Next.{Least, Next}
+use Rattle.address_set.proofs.Laws.{next-at, next-nothing}
+use Rattle.recorder.specs.declared.Pair.{Pair}
+use Rattle.recorder.specs.Recorded.{causesAt, pairsAt, pairsOver}
+use Rattle.recorder.specs.Records.{recordOf, recordsOf}
+
+-- the pairs of the members from `from` on
+abbrev pub pairsFrom : (image : List ℕ) (load last : ℕ) (undecoded : Address) (members : List ℕ) (from : ℕ) → List Pair
+pairsFrom image load last undecoded members from = pairsOver manualClass image load last undecoded (scan (has members) from (suc 0xFFFF - from))
+
+-- the records of the pairs at a, and of the pairs of the members from `from` on, each with weight 0
+abbrev pub recordsAt : (image : List ℕ) (load last : ℕ) (met : List ℕ) (undecoded : Address) (a : ℕ) → List ℕ
+recordsAt image load last met undecoded a = recordsOf manualClass image load last met (λ b. 0) (pairsAt manualClass image load last undecoded a)
+
+abbrev pub recordsFrom : (image : List ℕ) (load last : ℕ) (met : List ℕ) (undecoded : Address) (members : List ℕ) (from : ℕ) → List ℕ
+recordsFrom image load last met undecoded members from = recordsOf manualClass image load last met (λ b. 0) (pairsFrom image load last undecoded members from)
+
+module _ (members : List ℕ) (from : ℕ) {found : Found} (next : Next members from 0xFFFF found) where
+  pub found-least : {a : ℕ} → found ≡ At a → Least members from 0xFFFF a
+  found-least e = rw e at next
+
+  module _ (image : List ℕ) (load last : ℕ) (undecoded : Address) where
+    pairs-next : {a : ℕ} → found ≡ At a
+        → pairsFrom image load last undecoded members from
+        ≡ pairsAt manualClass image load last undecoded a ++ pairsFrom image load last undecoded members (a + 1)
+    unfolding pairsOver
+    pairs-next e = rw (next-at members from 0xFFFF next e)
+
+    pub pairs-fewer : {a : ℕ} → found ≡ At a
+        → length (pairsFrom image load last undecoded members from)
+        ≡ length (causesAt manualClass image load last undecoded a) + length (pairsFrom image load last undecoded members (a + 1))
+    pairs-fewer {a} e =
+        ap length (pairs-next e) ∙ length-append (pairsAt manualClass image load last undecoded a) (pairsFrom image load last undecoded members (a + 1))
+        ∙ rw length-map
+
+    pub pairs-end : found ≡ Nothing → pairsFrom image load last undecoded members from ≡ []
+    unfolding pairsOver
+    pairs-end e = rw (next-nothing members from 0xFFFF next e)
+
+    module _ (met : List ℕ) where
+      pub records-next : {a : ℕ} → found ≡ At a
+          → recordsFrom image load last met undecoded members from
+          ≡ recordsAt image load last met undecoded a ++ recordsFrom image load last met undecoded members (a + 1)
+      records-next {a} e =
+          ap (recordsOf manualClass image load last met (λ b. 0)) (pairs-next e)
+          ∙ map-append (recordOf manualClass image load last met (λ b. 0)) (pairsAt manualClass image load last undecoded a) _
+
+      pub records-end : found ≡ Nothing → recordsFrom image load last met undecoded members from ≡ []
+      records-end e = ap (recordsOf manualClass image load last met (λ b. 0)) (pairs-end e)

@@ -1,0 +1,2 @@
+-- Reading a packed record.
+pub mod Unpacked

@@ -1,0 +1,2 @@
+-- A refusal's record as one number.
+pub mod Packed

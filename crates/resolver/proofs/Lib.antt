@@ -1,0 +1,2 @@
+-- The laws of the resolver.
+pub mod Passing

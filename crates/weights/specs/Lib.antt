@@ -1,0 +1,2 @@
+-- The weight of an address.
+pub mod Weights
