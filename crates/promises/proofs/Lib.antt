@@ -1,0 +1,2 @@
+-- The promises, proved.
+pub mod Starred

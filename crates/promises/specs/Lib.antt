@@ -1,0 +1,2 @@
+-- What a customer reads.
+pub mod Starred
