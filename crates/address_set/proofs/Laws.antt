@@ -83,9 +83,12 @@ module _ {m m′ : List ℕ} {a : ℕ} {new : Bool} (i : Inserted m a m′ new) 
 -- ── a loop over the members ──
 -- what a search from `from` to `last` finds begins the list of the members there, and the next search is for the rest
 module _ (m : List ℕ) (from last : ℕ) {found : Found} (next : Next m from last found) where
+  pub found-least : {b : ℕ} → found ≡ At b → Least m from last b
+  found-least e = rw e at next
+
   pub next-at : {b : ℕ} → found ≡ At b → scan (has m) from (suc last - from) ≡ b ∷ scan (has m) (b + 1) (suc last - (b + 1))
   next-at {b} e =
-      let l : Least m from last b = rw e at next in
+      let l = found-least e in
       scan-next (has m) from b (suc last) (l .low) (omega arith) (l .member) (l .free)
 
   pub next-nothing : found ≡ Nothing → scan (has m) from (suc last - from) ≡ []

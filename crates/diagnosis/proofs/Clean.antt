@@ -29,9 +29,9 @@ use Rattle.reach.proofs.Local.{Agree, list-same}
 use Rattle.walk.specs.declared.Rule.the-variants.{Span, Diagnosis}
 use Rattle.walk.specs.Step.{isClear}
 use Rattle.walk.specs.Walked.{limit, stepIn, Walk}
+use Rattle.walk.specs.Possible.{Possible}
 use Rattle.walk.proofs.Rules.{diagnosis-goes-on, clear-same}
 use Rattle.extent.specs.Extent.{isSkipped}
-use Rattle.span.specs.Given.{Possible}
 use Rattle.recorder.specs.Recorded.{undecodedOf, causesAt, pairsAt, pairsOver}
 use Rattle.diagnosis.specs.declared.Summary.{Summary}
 use Rattle.diagnosis.specs.declared.DiagAnswer.the-variants.{Answered}
@@ -120,7 +120,7 @@ module _ (class : ℕ → Decoded) (image : List ℕ) (load : ℕ) (entries : Li
           laters = λ a b r k. refl;
         }
 
-    possible : (l : List ℕ) × Possible class image load entries l
+    possible : (l : List ℕ) × Possible class Span image load entries l
     possible =
         let d = finished-list entries walked in
         let fits = finished-iff entries walked (never-full entries (le-refl limit) walked) (d .1) .0 refl in (
@@ -139,7 +139,7 @@ module _ (class : ℕ → Decoded) (image : List ℕ) (load : ℕ) (entries : Li
         entry-inside a k (inr e) = absurd (clash (clean a (f .concerns .exact a .1 (inr (k, e))) .within) e)
 
   -- a span is possible: every address concerned is clean
-  module _ {l : List ℕ} (p : Possible class image load entries l) where
+  module _ {l : List ℕ} (p : Possible class Span image load entries l) where
     alike-span : Agree (stepIn class Span image load (last image load)) (stepIn class Diagnosis image load (last image load)) (inside load (last image load))
         (inside load (last image load)) entries
     alike-span =
@@ -167,7 +167,7 @@ module _ (class : ℕ → Decoded) (image : List ℕ) (load : ℕ) (entries : Li
         }
     concerned-clean a (inr k) = absurd (clash (pass _ (p .entries-inside a (k .0))) (k .1))
 
-  pub clean-iff : (length R ≡ 0) ↔ ((l : List ℕ) × Possible class image load entries l)
+  pub clean-iff : (length R ≡ 0) ↔ ((l : List ℕ) × Possible class Span image load entries l)
   clean-iff = (
     λ e. possible (none-recorded class image load (last image load) (undecodedOf (f .end)) (f .concerned) (sym record-count ∙ e)),
     λ d.
@@ -178,7 +178,7 @@ module _ (class : ℕ → Decoded) (image : List ℕ) (load : ℕ) (entries : Li
 
 -- the same of the answer: no record exactly where a span is possible
 pub clean-answer : (class : ℕ → Decoded) (image : List ℕ) (load : ℕ) (entries slots slots′ : List ℕ) (s : Summary)
-    → Answers class image load entries slots slots′ (Answered s) → (s .records ≡ 0) ↔ ((l : List ℕ) × Possible class image load entries l)
+    → Answers class image load entries slots slots′ (Answered s) → (s .records ≡ 0) ↔ ((l : List ℕ) × Possible class Span image load entries l)
 clean-answer class image load entries slots slots′ s a =
     let c = clean-iff class image load entries (a .1) in
     (λ e. c .0 (sym (a .3) ∙ e), λ d. a .3 ∙ c .1 d)

@@ -1,31 +1,29 @@
 -- The computed records and summary meet the statement, where all entries are inside and every walk ends within the turns that are taken: then the addresses met are
 -- all that is recorded.
 use mathlib.Core.Path.{_≡_, refl}
-use mathlib.Core.Logic.{inl, ⊎-elim}
+use mathlib.Core.Logic.{_↔_, inl, ⊎-elim}
 use mathlib.Core.Bool.{Bool, true, false, cond}
 use mathlib.Core.List.{List, [], _∷_, _++_}
 use Prim.Native.Nat.{ℕ, suc, _-_, _≤_}
-use native.Mathlib.Omega.{arith}
 use lib.Dec.{T}
 use lib.ListN.{length, drop}
 use Rattle.lists.specs.Lists.{_∈_, elem}
 use Rattle.lists.proofs.Tests.{pass, clash}
-use Rattle.lists.proofs.Sets.{elem-mem, mem-elem}
-use Rattle.lists.proofs.Scan.{scan-only, scan-all, scan-ascending}
+use Rattle.lists.proofs.Scan.{scan-ascending}
 use Rattle.mos6502.specs.declared.Decoded.{Decoded}
 use Rattle.image.specs.Image.{last, inside}
 use Rattle.opening.specs.Opening.{Ready}
 use Rattle.reach.specs.Walk.{End, full, Turn, turns, halts}
 use Rattle.reach.proofs.Turn.{after-runs}
 use Rattle.walk.specs.declared.Rule.the-variants.{Diagnosis}
-use Rattle.walk.specs.Walked.{Walk}
-use Rattle.walk.proofs.Members.{walk-inside}
+use Rattle.walk.specs.Walked.{Walk, ordered}
+use Rattle.walk.proofs.Members.{ordered-met}
 use Rattle.span.proofs.Computed.{Ended}
 use Rattle.recorder.specs.Recorded.{Concerns}
 use Rattle.weights.specs.Weights.{recordsAlone, Weighs, none, counts, passes}
 use Rattle.diagnosis.specs.declared.DiagAnswer.the-variants.{Answered}
 use Rattle.diagnosis.specs.Answers.{Answers}
-use Rattle.diagnosis.specs.Computed.{turnsOf, recordsBy, weightAfter, orderOf, recordsFrom, summaryFrom}
+use Rattle.diagnosis.specs.Computed.{turnsOf, recordsBy, weightAfter, recordsFrom, summaryFrom}
 use Rattle.diagnosis.proofs.Measured.{measured}
 
 module _ (class : ℕ → Decoded) (image : List ℕ) (load : ℕ) where
@@ -52,15 +50,10 @@ module _ (class : ℕ → Decoded) (image : List ℕ) (load : ℕ) where
 
   module _ (entries : List ℕ) (n : ℕ) {e : End} {met : List ℕ} (ready : Ready image load entries)
       (within : (a : ℕ) → a ∈ entries → T (inside load (last image load) a)) (w : Walk class Diagnosis image load (last image load) entries e met) where
-    same : (a : ℕ) → (a ∈ orderOf class image load met → a ∈ met) × (a ∈ met → a ∈ orderOf class image load met)
-    same a = (
-      λ k. elem-mem a met (scan-only (λ b. elem b met) load (suc (last image load) - load) k .test),
-      λ k.
-          let i = walk-inside class Diagnosis image load (last image load) entries w a k in
-          scan-all (λ b. elem b met) load (suc (last image load) - load) (record { low = i .0; high = omega arith; test = mem-elem k }),
-    )
+    same : (a : ℕ) → a ∈ ordered load (last image load) met ↔ a ∈ met
+    same = ordered-met class Diagnosis image load (last image load) entries w
 
-    concerns : Concerns load (last image load) entries met (orderOf class image load met)
+    concerns : Concerns load (last image load) entries met (ordered load (last image load) met)
     concerns =
         record {
           ascending = scan-ascending (λ b. elem b met) load (suc (last image load) - load);
@@ -82,16 +75,16 @@ module _ (class : ℕ → Decoded) (image : List ℕ) (load : ℕ) where
         met = met;
         walk = w;
         not-full = f;
-        order = orderOf class image load met;
+        order = ordered load (last image load) met;
         ascending = scan-ascending (λ b. elem b met) load (suc (last image load) - load);
         same = same;
-        concerned = orderOf class image load met;
+        concerned = ordered load (last image load) met;
         concerns = concerns;
         weight = weightAfter class image load n entries;
         weighs = λ a k. weighs n entries d a;
         exact = refl;
       },
-      measured class image load entries ready w (orderOf class image load met) same refl refl,
+      measured class image load entries ready w (ordered load (last image load) met) same refl refl,
       refl,
       h,
       refl,

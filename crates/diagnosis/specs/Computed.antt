@@ -1,16 +1,15 @@
 -- The same records and summary, computed where all entries are inside: turn by turn, then over the list of what was met. For worked examples. Assumes nothing.
 use mathlib.Core.Bool.{Bool, false, cond}
 use mathlib.Core.List.{List, [], _∷_}
-use Prim.Native.Nat.{ℕ, suc, _-_}
+use Prim.Native.Nat.{ℕ, suc}
 use lib.ListN.{length}
-use Rattle.lists.specs.Lists.{elem, scan}
 use Rattle.mos6502.specs.declared.Decoded.{Decoded}
 use Rattle.image.specs.Image.{last, inside}
 use Rattle.site.specs.declared.Reading.the-variants.{Plain}
 use Rattle.site.specs.Site.{siteIn}
 use Rattle.reach.specs.Walk.{End, Turn, turns, halts, start, after}
 use Rattle.walk.specs.declared.Rule.the-variants.{Diagnosis}
-use Rattle.walk.specs.Walked.{limit, stepIn}
+use Rattle.walk.specs.Walked.{limit, stepIn, ordered}
 use Rattle.extent.specs.Extent.{extentOf}
 use Rattle.recorder.specs.Recorded.{undecodedOf, pairsOver}
 use Rattle.recorder.specs.Records.{recordsOf}
@@ -33,17 +32,13 @@ module _ (class : ℕ → Decoded) (image : List ℕ) (load : ℕ) where
   weightAfter n (entry ∷ entries) a =
       cond (recordsBy entry (turnsOf (entry ∷ []) n) a) (suc (weightAfter n entries a)) (weightAfter n entries a)
 
-  -- what was met, ascending
-  abbrev pub orderOf : (met : List ℕ) → List ℕ
-  orderOf met = scan (λ a. elem a met) load (suc (last image load) - load)
-
   module _ (entries : List ℕ) (n : ℕ) where
     abbrev pub recordsFrom : End → (met : List ℕ) → List ℕ
     recordsFrom e met =
-        recordsOf class image load (last image load) (orderOf met) (weightAfter n entries)
-        (pairsOver class image load (last image load) (undecodedOf e) (orderOf met))
+        recordsOf class image load (last image load) (ordered load (last image load) met) (weightAfter n entries)
+        (pairsOver class image load (last image load) (undecodedOf e) (ordered load (last image load) met))
 
     abbrev pub summaryFrom : End → (met : List ℕ) → Summary
     summaryFrom e met =
-        let x = extentOf Plain load (last image load) (siteIn class image load (last image load)) (undecodedOf e) entries (orderOf met) in
+        let x = extentOf Plain load (last image load) (siteIn class image load (last image load)) (undecodedOf e) entries (ordered load (last image load) met) in
         record { low = x .low; high = x .high; count = length met; records = length (recordsFrom e met) }

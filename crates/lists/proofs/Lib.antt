@@ -4,3 +4,4 @@ pub mod Sets
 pub mod Scan
 pub mod Stack
 pub mod Zeros
+pub mod Filling

@@ -10,7 +10,7 @@ use native.Mathlib.Omega.{arith}
 use lib.Dec.{T, eqb, eqb→eq, eqb-refl}
 use lib.ListN.{length, getD}
 use Rattle.lists.specs.Lists.{_∈_, elem, Ascending, Distinct}
-use Rattle.lists.proofs.Tests.{or-left, or-right}
+use Rattle.lists.proofs.Tests.{pass, or-left, or-right}
 
 -- ── elem ──
 pub elem-mem : (a : ℕ) (l : List ℕ) → T (elem a l) → a ∈ l
@@ -31,6 +31,16 @@ elem? a l = say (elem a l) (elem-mem a l) mem-elem
     say : (b : Bool) → (T b → a ∈ l) → (a ∈ l → T b) → Dec (a ∈ l)
     say true f g = yes (f tt)
     say false f g = no g
+
+-- lists of the same elements have the same test
+pub elem-same : (a : ℕ) (l k : List ℕ) → a ∈ l ↔ a ∈ k → elem a l ≡ elem a k
+elem-same a l k same =
+    say (elem a l) (elem a k) (λ t. mem-elem (same .0 (elem-mem a l t))) (λ t. mem-elem (same .1 (elem-mem a k t)))
+  where
+    say : (b c : Bool) → (T b → T c) → (T c → T b) → b ≡ c
+    say true c f g = sym (pass c (f tt))
+    say false true f g = absurd (g tt)
+    say false false f g = refl
 
 -- a list that is not empty has an element
 pub some-mem : (l : List ℕ) → 0 < length l → (a : ℕ) × (a ∈ l)

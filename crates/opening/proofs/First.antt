@@ -61,6 +61,25 @@ module _ (image : List ℕ) (load : ℕ) (entries : List ℕ) where
       by (past s t) true f g = no-entries s (f refl)
       by (past s t) false f g = past-top s (omega (arith, g refl)) t
 
+  -- the answers exclude each other
+  pub opens-unique : {o o′ : Opening} → Opens o → Opens o′ → o ≡ o′
+  opens-unique (ready r) (ready s) = refl
+  opens-unique (ready r) (image-empty e) = absurd (omega (arith, r .image-some))
+  opens-unique (ready r) (no-entries s e) = absurd (omega (arith, r .entries-some))
+  opens-unique (ready r) (past-top s e t) = absurd (omega (arith, r .top))
+  opens-unique (image-empty e) (ready r) = absurd (omega (arith, r .image-some))
+  opens-unique (image-empty e) (image-empty e′) = refl
+  opens-unique (image-empty e) (no-entries s e′) = absurd (omega arith)
+  opens-unique (image-empty e) (past-top s e′ t) = absurd (omega arith)
+  opens-unique (no-entries s e) (ready r) = absurd (omega (arith, r .entries-some))
+  opens-unique (no-entries s e) (image-empty e′) = absurd (omega arith)
+  opens-unique (no-entries s e) (no-entries s′ e′) = refl
+  opens-unique (no-entries s e) (past-top s′ e′ t) = absurd (omega arith)
+  opens-unique (past-top s e t) (ready r) = absurd (omega (arith, r .top))
+  opens-unique (past-top s e t) (image-empty e′) = absurd (omega arith)
+  opens-unique (past-top s e t) (no-entries s′ e′) = absurd (omega arith)
+  opens-unique (past-top s e t) (past-top s′ e′ t′) = refl
+
   -- what the first tests answered says which answer it is
   pub opened-as : {r o : Opening} → r ≡ openingOf image load entries → r ≡ o → Opens o
   opened-as e f = rw (sym e ∙ f) at opens

@@ -1,10 +1,11 @@
 -- The starred cases of 01, "Cases on the bench", as one table: an image, its load address, the entries, and what is answered. Assumes nothing.
 use mathlib.Core.Path.{_≡_}
-use mathlib.Core.Bool.{true, false, cond}
+use mathlib.Core.Bool.{true, false}
 use mathlib.Core.List.{List, [], _∷_, _++_, map}
 use Prim.Native.Nat.{ℕ, _≤_}
-use lib.ListN.{length, getD, drop}
+use lib.ListN.{length, drop}
 use Rattle.mos6502.specs.Class.{manualClass}
+use Rattle.writes.specs.Writes.{manualWrites}
 use Rattle.image.specs.Image.{branchTarget}
 use Rattle.cause.specs.declared.RefusalCause.{RefusalCause}
 use Rattle.cause.specs.declared.RefusalCause.the-variants.{IndirectIndexedY, RanOffEnd}
@@ -12,7 +13,7 @@ use Rattle.records.specs.declared.Fields.{Fields}
 use Rattle.records.specs.Packed.{packed}
 use Rattle.tracker.specs.declared.Known.{Known}
 use Rattle.tracker.specs.declared.Known.the-variants.{Value, Unknown}
-use Rattle.tracker.specs.Track.{tracked, knows}
+use Rattle.tracker.specs.Track.{tracked, valueIn}
 use Rattle.site.specs.declared.Reading.{Reading}
 use Rattle.site.specs.declared.Reading.the-variants.{Plain, Guarded}
 use Rattle.span.specs.declared.SpanAnswer.{SpanAnswer}
@@ -20,18 +21,18 @@ use Rattle.span.specs.declared.SpanAnswer.the-variants.{Given, ImageEmpty, Past
 use Rattle.span.specs.Given.{Answers}
 use Rattle.diagnosis.specs.declared.DiagAnswer.the-variants.{Answered}
 use Rattle.diagnosis.specs.Answers as diagnosis
+use Rattle.stores.specs.declared.StoresAnswer.{StoresAnswer}
+use Rattle.stores.specs.declared.StoresAnswer.the-variants as stored
+use Rattle.stores.specs.Answers as stores
 
 pub data Case : Type 0 where
   spans : (image : List ℕ) (load : ℕ) (entries : List ℕ) → Reading → SpanAnswer → Case
   branches : (next offset target : ℕ) → Case
   diagnoses : (image : List ℕ) (load : ℕ) (entries : List ℕ) → (low high count : ℕ) → (records : List Fields) → Case
   tracks : (code : List ℕ) (z : ℕ) → Known → Case
+  storing : (image : List ℕ) (load : ℕ) (entries : List ℕ) → StoresAnswer → (records : List ℕ) → Case
 
--- what the tracker knows of a zero-page byte after a run
-abbrev pub zpAfter : (code : List ℕ) (z : ℕ) → Known
-zpAfter code z = cond (knows (tracked code) z) (Value (getD (tracked code .zp) z 0)) Unknown
-
--- What a case claims. A diagnosis writes these records into every lent list that is long enough, and leaves the slots after them.
+-- What a case claims. Diagnosis and stores write these records into every lent list that is long enough, and leave the slots after them; a refusal writes none.
 abbrev pub Holds : Case → Type 0
 Holds (spans image load entries reading answer) = Answers manualClass image load entries reading answer
 Holds (branches next offset target) = branchTarget next offset ≡ target
@@ -39,7 +40,10 @@ Holds (diagnoses image load entries low high count records) =
     (slots : List ℕ) → length records ≤ length slots
     → diagnosis.Answers manualClass image load entries slots (map packed records ++ drop (length records) slots)
     (Answered (record { low = low; high = high; count = count; records = length records }))
-Holds (tracks code z known) = zpAfter code z ≡ known
+Holds (tracks code z known) = valueIn (tracked code) z ≡ known
+Holds (storing image load entries answer records) =
+    (slots : List ℕ) → length records ≤ length slots
+    → stores.Answers manualClass manualWrites image load entries slots (records ++ drop (length records) slots) answer
 
 abbrev pub AllHold : List Case → Type 0
 AllHold [] = Unit {0}
@@ -78,4 +82,10 @@ starred =
     diagnoses (0x91 ∷ 0xFB ∷ []) 0xC000 (0xC000 ∷ []) 0xC000 0xC001 1 (pointing 0xC000 IndirectIndexedY 0x91 0xFB ∷ bare 0xC000 RanOffEnd 0x91 ∷ []) ∷
     tracks (0x85 ∷ 0xFB ∷ 0x2C ∷ 0xA9 ∷ 0x01 ∷ 0x85 ∷ 0x10 ∷ []) 0x10 (Value 0x01) ∷
     tracks (0x85 ∷ 0xFB ∷ 0x2C ∷ 0xA9 ∷ 0x01 ∷ 0x85 ∷ 0x10 ∷ []) 0xFB Unknown ∷
+    storing (0x60 ∷ []) 0xC000 (0xC000 ∷ []) (stored.Answered 0) [] ∷
+    storing (0x4C ∷ 0x00 ∷ 0x10 ∷ []) 0xC000 (0xC000 ∷ []) stored.Refused [] ∷
+    storing (0x4C ∷ 0xE4 ∷ 0xFF ∷ []) 0xC000 (0xC000 ∷ []) (stored.Answered 0) [] ∷
+    storing (0xD0 ∷ 0x7F ∷ 0x60 ∷ []) 0xC000 (0xC000 ∷ []) stored.Refused [] ∷
+    storing (0x91 ∷ 0xFF ∷ 0x60 ∷ []) 0xC000 (0xC000 ∷ []) stored.Unbounded [] ∷
+    storing (0x9D ∷ 0xF0 ∷ 0xFF ∷ 0x60 ∷ []) 0xC000 (0xC000 ∷ []) (stored.Answered 1) (0xFFF0FFFF ∷ []) ∷
     []

@@ -9,7 +9,7 @@ use Rattle.image.specs.declared.Address.{Address}
 use Rattle.address_set.specs.declared.Found.{Found}
 use Rattle.address_set.specs.declared.Found.the-variants.{At, Nothing}
 use Rattle.address_set.specs.Map.{has}
-use Rattle.address_set.specs.Next.{Least, Next}
+use Rattle.address_set.specs.Next.{Next}
 use Rattle.address_set.proofs.Laws.{next-at, next-nothing}
 use Rattle.recorder.specs.declared.Pair.{Pair}
 use Rattle.recorder.specs.Recorded.{causesAt, pairsAt, pairsOver}
@@ -27,9 +27,6 @@ abbrev pub recordsFrom : (image : List ℕ) (load last : ℕ) (met : List ℕ) (
 recordsFrom image load last met undecoded members from = recordsOf manualClass image load last met (λ b. 0) (pairsFrom image load last undecoded members from)
 
 module _ (members : List ℕ) (from : ℕ) {found : Found} (next : Next members from 0xFFFF found) where
-  pub found-least : {a : ℕ} → found ≡ At a → Least members from 0xFFFF a
-  found-least e = rw e at next
-
   module _ (image : List ℕ) (load last : ℕ) (undecoded : Address) where
     pairs-next : {a : ℕ} → found ≡ At a
         → pairsFrom image load last undecoded members from

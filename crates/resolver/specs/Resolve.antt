@@ -18,13 +18,17 @@ use Rattle.tracker.specs.Track.{loaded, stored}
 use Rattle.resolver.specs.declared.Seen.{Seen}
 use Rattle.resolver.specs.declared.Seen.the-variants.{Never, Holds, Spoiled}
 
--- the byte after an opcode at a, if it is there: after 0xFFFF it is that at 0
+-- the byte at an address, if it is there
 abbrev pub asKnown : Held → Known
 asKnown (Byte v) = Value v
 asKnown Absent = Unknown
 
+abbrev pub knownAt : (image : List ℕ) (load a : ℕ) → Known
+knownAt image load a = asKnown (wrappedByte image load a)
+
+-- the byte after an opcode at a: after 0xFFFF it is that at 0
 abbrev pub argumentAt : (image : List ℕ) (load a : ℕ) → Known
-argumentAt image load a = asKnown (wrappedByte image load (after a))
+argumentAt image load a = knownAt image load (after a)
 
 -- does it store a register to the byte z?
 abbrev pub isValue : Known → (z : ℕ) → Bool

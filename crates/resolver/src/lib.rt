@@ -5,7 +5,7 @@ ghost use Prim.Native.Nat.{suc, _-_};
 ghost use Rattle.lists.specs.Lists.{scan};
 ghost use Rattle.image.specs.Image.{Lies};
 ghost use Rattle.address_set.specs.Map.{has};
-ghost use Rattle.resolver.specs.Resolve.{argumentAt, isStore, seenWith, seenOf, Noted, Blank, Tells};
+ghost use Rattle.resolver.specs.Resolve.{knownAt, argumentAt, isStore, seenWith, seenOf, Noted, Blank, Tells};
 use address_set::Found;
 use image::Bounds;
 use image::Held;
@@ -19,14 +19,21 @@ pub enum Seen {
     Spoiled,
 }
 
-// The byte after an opcode, if it is there. Addresses wrap on purpose: the byte after 0xFFFF is that at 0.
-fn argument_at(image: &[u8], load: u16, a: u16) -> Known
-    ensures { λ r. ⌜ r ≡ argumentAt (now (image .entry)) load a ⌝ }
+// The byte at an address, if it is there.
+pub fn known_at(image: &[u8], load: u16, a: u16) -> Known
+    ensures { λ r. ⌜ r ≡ knownAt (now (image .entry)) load a ⌝ }
 {
-    match image::wrapped_byte(image, load, std::num::wrapping_add_u16(a, 1)) {
+    match image::wrapped_byte(image, load, a) {
         Held::Byte(v) => Known::Value(v),
         Held::Absent => Known::Unknown,
     }
+}
+
+// The byte after an opcode. Addresses wrap on purpose: the byte after 0xFFFF is that at 0.
+pub fn argument_at(image: &[u8], load: u16, a: u16) -> Known
+    ensures { λ r. ⌜ r ≡ argumentAt (now (image .entry)) load a ⌝ }
+{
+    known_at(image, load, std::num::wrapping_add_u16(a, 1))
 }
 
 fn is_store(op: u8) -> bool
@@ -63,7 +70,7 @@ fn seen_with(seen: Seen, value: Known) -> Seen
 }
 
 // A byte's place in the two arrays: 0 never, 1 its value, 2 spoiled.
-fn seen_of(state: u8, value: u8) -> Seen
+pub fn seen_of(state: u8, value: u8) -> Seen
     ensures { λ r. ⌜ r ≡ seenOf state value ⌝ }
 {
     if state == 0 {
@@ -76,7 +83,7 @@ fn seen_of(state: u8, value: u8) -> Seen
 }
 
 // Takes one more value for the byte `z` into the arrays.
-fn note(z: u8, value: Known, states: &mut [u8; 256], values: &mut [u8; 256])
+pub fn note(z: u8, value: Known, states: &mut [u8; 256], values: &mut [u8; 256])
     ensures { λ _. ⌜ Noted (now (states .entry)) (now (values .entry)) z value (now (states .exit)) (now (values .exit)) ⌝ }
 {
     // As slices, they tell the proof their lengths.

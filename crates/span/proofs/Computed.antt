@@ -14,10 +14,12 @@ use Rattle.reach.specs.Walk.{End, finished, refused, spent, full, Turn, turns, 
 use Rattle.reach.proofs.Turn.{after-runs}
 use Rattle.walk.specs.declared.Rule.the-variants.{Span as SpanRule}
 use Rattle.walk.specs.Walked.{Walk}
+use Rattle.walk.specs.Possible.{EntriesInside}
+use Rattle.walk.proofs.Possible.{refused≢finished, spent≢finished}
 use Rattle.span.specs.declared.SpanAnswer.the-variants.{Refused}
-use Rattle.span.specs.Given.{EntriesInside, Answers}
+use Rattle.span.specs.Given.{Answers}
 use Rattle.span.specs.Computed.{answerOf, answerAfter, turnsOf, spanFrom, spanAfter}
-use Rattle.span.proofs.Verdict.{refused≢finished, spent≢finished, unfinished, entry-outside, finishes}
+use Rattle.span.proofs.Verdict.{unfinished, entry-outside, finishes}
 
 -- the walk has ended
 abbrev pub Ended : Turn → Type 0
@@ -25,7 +27,7 @@ Ended (halts e met) = Unit {0}
 Ended (turns s) = ⊥
 
 module _ (class : ℕ → Decoded) (reading : Reading) (image : List ℕ) (load : ℕ) (entries : List ℕ) where
-  by-end : Ready image load entries → EntriesInside class image load entries → {e : End} {met : List ℕ}
+  by-end : Ready image load entries → EntriesInside class SpanRule image load entries → {e : End} {met : List ℕ}
       → Walk class SpanRule image load (last image load) entries e met
       → Answers class image load entries reading (answerOf class reading image load entries e met)
   by-end r i {e = finished} {met = met} w = finishes class image load entries r i reading w met (λ a. (λ k. k, λ k. k)) _ refl
@@ -37,7 +39,7 @@ module _ (class : ℕ → Decoded) (reading : Reading) (image : List ℕ) (load 
       → Answers class image load entries reading (spanAfter class reading image load entries n)
   computed n d = by (opens image load entries)
     where
-      by-turn : Ready image load entries → EntriesInside class image load entries → (t : Turn) → turnsOf class reading image load entries n ≡ t → Ended t
+      by-turn : Ready image load entries → EntriesInside class SpanRule image load entries → (t : Turn) → turnsOf class reading image load entries n ≡ t → Ended t
           → Answers class image load entries reading (answerAfter class reading image load entries t)
       by-turn r i (halts e met) q d = by-end r i (after-runs n q)
       by-turn r i (turns s) q d = absurd d

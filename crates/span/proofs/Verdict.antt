@@ -4,7 +4,6 @@ use mathlib.Core.Path.{_≡_, refl, _∙_}
 use mathlib.Core.Logic.{_↔_, _≢_}
 use mathlib.Core.List.{List}
 use Prim.Native.Nat.{ℕ}
-use native.Mathlib.Nat.{le-refl}
 use native.Mathlib.Omega.{arith}
 use lib.ListN.{length}
 use Rattle.lists.specs.Lists.{_∈_}
@@ -18,64 +17,37 @@ use Rattle.opening.specs.Opening.{Ready}
 use Rattle.site.specs.declared.Reading.{Reading}
 use Rattle.site.specs.Site.{siteIn}
 use Rattle.site.proofs.Size.{site-size}
-use Rattle.reach.specs.Reach.{ReachList}
-use Rattle.reach.specs.Walk.{End, finished, refused, spent}
-use Rattle.reach.proofs.Ends.{never-full}
-use Rattle.reach.proofs.Exact.{Fits, finished-iff, finished-list, finished-count, finished-exact}
+use Rattle.reach.specs.Walk.{End, finished}
+use Rattle.reach.proofs.Exact.{finished-exact}
 use Rattle.reach.proofs.Finite.{reach-inside}
 use Rattle.walk.specs.declared.Rule.the-variants.{Span as SpanRule}
-use Rattle.walk.specs.Walked.{limit, stepIn, Walk}
-use Rattle.walk.proofs.Rules.{clear-goes-on, goes-on-clear}
+use Rattle.walk.specs.Walked.{Walk}
+use Rattle.walk.specs.Possible.{Reachable, EntriesInside}
+use Rattle.walk.proofs.Possible as walk
 use Rattle.extent.specs.Named.{Named, by-entry, Range}
 use Rattle.extent.specs.Extent.{extentOf}
 use Rattle.extent.proofs.Range.{range-same, named-more}
 use Rattle.extent.proofs.Hull.{extent-range}
 use Rattle.span.specs.declared.SpanAnswer.the-variants.{Refused}
-use Rattle.span.specs.Given.{Reachable, EntriesInside, Possible, Answers}
+use Rattle.span.specs.Given.{Answers}
 use Rattle.span.specs.Computed.{spanWith}
-use Rattle.span.proofs.Unique.{not-full}
-
-pub refused≢finished : {pc : ℕ} → refused pc ≢ finished
-refused≢finished e = let z : _≡_ {A = ℕ} 0 1 = cc in omega arith
-
-pub spent≢finished : {pc : ℕ} → spent pc ≢ finished
-spent≢finished e = let z : _≡_ {A = ℕ} 0 1 = cc in omega arith
 
 module _ (class : ℕ → Decoded) (image : List ℕ) (load : ℕ) (entries : List ℕ) (ready : Ready image load entries) where
   abbrev Walks : End → List ℕ → Type 0
   Walks e met = Walk class SpanRule image load (last image load) entries e met
 
-  fitting : {l : List ℕ} → Possible class image load entries l → Fits (stepIn class SpanRule image load (last image load)) limit l
-  fitting p = record { small = p .few; fine = λ a k. clear-goes-on class image load (last image load) a (p .accepted a k) }
-
   -- a walk that does not finish: no span is possible
   pub unfinished : (reading : Reading) {e : End} {met : List ℕ} → Walks e met → e ≢ finished → Answers class image load entries reading Refused
-  unfinished reading w n = (
-    ready,
-    λ d. n (finished-iff entries w (never-full entries (le-refl limit) w) (d .1 .reachable) .1 (fitting (d .1))),
-    not-full class image load entries,
-  )
+  unfinished reading w n = (ready, walk.unfinished class SpanRule image load entries w n, walk.not-full class SpanRule image load entries)
 
   -- an entry outside: no span is possible
-  pub entry-outside : (reading : Reading) → ¬ EntriesInside class image load entries → Answers class image load entries reading Refused
-  entry-outside reading out = (ready, λ d. out (d .1 .entries-inside), not-full class image load entries)
+  pub entry-outside : (reading : Reading) → ¬ EntriesInside class SpanRule image load entries → Answers class image load entries reading Refused
+  entry-outside reading out = (ready, λ d. out (d .1 .entries-inside), walk.not-full class SpanRule image load entries)
 
-  module _ (within : EntriesInside class image load entries) where
-    possible : {met l : List ℕ} → Walks finished met → ReachList (stepIn class SpanRule image load (last image load)) (inside load (last image load)) entries l
-        → Possible class image load entries l
-    possible w h =
-        let f = finished-iff entries w (never-full entries (le-refl limit) w) h .0 refl in
-        record {
-          ready = ready;
-          entries-inside = within;
-          reachable = h;
-          few = f .small;
-          accepted = λ a k. goes-on-clear class image load (last image load) a (f .fine a k);
-        }
-
+  module _ (within : EntriesInside class SpanRule image load entries) where
     -- the range over a list of what was met is the range of what is named by the reachable instructions
     range : (reading : Reading) {met : List ℕ} → Walks finished met → (k : List ℕ) → ((a : ℕ) → a ∈ k ↔ a ∈ met)
-        → Range (Named reading load (last image load) (siteIn class image load (last image load)) entries (Reachable class image load entries))
+        → Range (Named reading load (last image load) (siteIn class image load (last image load)) entries (Reachable class SpanRule image load entries))
         (extentOf reading load (last image load) (siteIn class image load (last image load)) Nowhere entries k .low)
         (extentOf reading load (last image load) (siteIn class image load (last image load)) Nowhere entries k .high)
     range reading w k same =
@@ -93,5 +65,5 @@ module _ (class : ℕ → Decoded) (image : List ℕ) (load : ℕ) (entries : Li
         → Answers class image load entries reading
         (spanWith (extentOf reading load (last image load) (siteIn class image load (last image load)) Nowhere entries k) n)
     finishes reading w k same n e =
-        let l = finished-list entries w in
-        record { list = l .0; possible = possible w (l .1); range = range reading w k same; count = e ∙ finished-count entries w (l .1) }
+        let f = walk.finishes class SpanRule image load entries tt ready within w in
+        record { list = f .list; possible = f .possible; range = range reading w k same; count = e ∙ f .count }

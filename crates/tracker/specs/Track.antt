@@ -62,6 +62,10 @@ tracked code = track nothing code
 abbrev pub knows : ImmState → (z : ℕ) → Bool
 knows s z = eqb (getD (s .marks) z 0) 1
 
+-- its value, if it is known
+abbrev pub valueIn : ImmState → (z : ℕ) → Known
+valueIn s z = cond (knows s z) (Value (getD (s .zp) z 0)) Unknown
+
 -- ── a place in a longer run ──
 -- the bytes from `at` on and below n
 abbrev pub part : (code : List ℕ) (at n : ℕ) → List ℕ

@@ -3,7 +3,7 @@
 ghost use mathlib.Core.Path.{_≡_};
 ghost use Prim.Native.Nat.{_+_, _≤_, _<_};
 ghost use lib.ListN.{length};
-ghost use Rattle.tracker.specs.Track.{nothing, isTracked, loaded, stored, zpWith, marksWith, stateOf, tracked, Reached, Stands};
+ghost use Rattle.tracker.specs.Track.{nothing, isTracked, loaded, stored, zpWith, marksWith, valueIn, stateOf, tracked, Reached, Stands};
 
 // A register's value, if it is known.
 pub enum Known {
@@ -105,6 +105,17 @@ fn store(value: Known, arg: u8, zp: &mut [u8; 256], marks: &mut [u8; 256])
         zp[i] = v;
         marks[i] = 1;
     }
+}
+
+// What is known of a zero-page byte.
+pub fn value_in(z: u8, regs: Registers, zp: &[u8; 256], marks: &[u8; 256]) -> Known
+    ensures { λ r. ⌜ r ≡ valueIn (stateOf regs (now (zp .entry)) (now (marks .entry))) z ⌝ }
+{
+    let i = z as usize;
+    if marks[i] == 1 {
+        return Known::Value(zp[i]);
+    }
+    Known::Unknown
 }
 
 // Goes on from a place until the first `n` bytes of `code` are read. A caller that asks for growing `n` reads each byte once.

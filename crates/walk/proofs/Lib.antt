@@ -2,3 +2,4 @@
 pub mod Link
 pub mod Members
 pub mod Rules
+pub mod Possible

@@ -6,7 +6,7 @@ use Prim.Native.Nat.{ℕ, suc, _-_, _≤_, _<_}
 use native.Mathlib.Omega.{arith}
 use lib.Dec.{T}
 use lib.ListN.{length}
-use Rattle.lists.specs.Lists.{_∈_, scan}
+use Rattle.lists.specs.Lists.{_∈_, elem, scan}
 use Rattle.lists.proofs.Tests.{pass}
 use Rattle.lists.proofs.Sets.{elem-mem, mem-elem, fewer, ascending-distinct}
 use Rattle.lists.proofs.Scan.{scan-only, scan-all}
@@ -21,12 +21,22 @@ use Rattle.reach.proofs.Sound.{sound}
 use Rattle.reach.proofs.Finite.{reach-inside}
 use Rattle.walk.specs.declared.End.{End}
 use Rattle.walk.specs.declared.Rule.{Rule}
-use Rattle.walk.specs.Walked.{Walk, Walked}
+use Rattle.walk.specs.Walked.{Walk, ordered, Walked}
 
 -- what a walk meets lies inside
 pub walk-inside : (class : ℕ → Decoded) (rule : Rule) (image : List ℕ) (load last : ℕ) (entries : List ℕ) {e : machine.End} {met : List ℕ}
     → Walk class rule image load last entries e met → (a : ℕ) → a ∈ met → (load ≤ a) × (a ≤ last)
 walk-inside class rule image load last entries w a k = inside-bounds load last a (pass (inside load last a) (reach-inside (sound entries w .found .reached a k)))
+
+-- the ascending list of what it meets has just that
+pub ordered-met : (class : ℕ → Decoded) (rule : Rule) (image : List ℕ) (load last : ℕ) (entries : List ℕ) {e : machine.End} {met : List ℕ}
+    → Walk class rule image load last entries e met → (a : ℕ) → a ∈ ordered load last met ↔ a ∈ met
+ordered-met class rule image load last entries {met = met} w a = (
+  λ k. elem-mem a met (scan-only (λ b. elem b met) load (suc last - load) k .test),
+  λ k.
+      let i = walk-inside class rule image load last entries w a k in
+      scan-all (λ b. elem b met) load (suc last - load) (record { low = i .0; high = omega arith; test = mem-elem k }),
+)
 
 module _ {rule : Rule} {image : List ℕ} {load last : ℕ} {entries : List ℕ} {e : End} {map : List ℕ}
     (w : Walked rule image load last entries e map) (top : last < 65536) where

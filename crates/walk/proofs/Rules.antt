@@ -17,8 +17,9 @@ use Rattle.reach.specs.Reach.{refuses}
 use Rattle.reach.proofs.Complete.{Fine, fine≢refuses}
 use Rattle.walk.specs.declared.Step.{Step}
 use Rattle.walk.specs.declared.Step.the-variants.{Ends, Refuses, Goes, Forks}
-use Rattle.walk.specs.declared.Rule.the-variants.{Span, Diagnosis}
-use Rattle.walk.specs.Step.{goesTo, forksTo, follow, isClear, isPassable, stepBy, asStep}
+use Rattle.walk.specs.declared.Rule.{Rule}
+use Rattle.walk.specs.declared.Rule.the-variants.{Span, Diagnosis, Stores}
+use Rattle.walk.specs.Step.{goesTo, forksTo, follow, isClear, isPassable, accepts, otherwise, stepBy, asStep}
 use Rattle.walk.specs.Walked.{stepIn}
 
 goes-fine : (a : Address) → Fine (asStep (goesTo a))
@@ -42,17 +43,28 @@ follow-fine inside Branch next target = forks-fine inside next target
 follow-fine inside Stop next target = tt
 follow-fine inside Refuse next target = tt
 
--- ── the span's rule ──
+-- ── a rule ──
+-- a rule that refuses what it does not pass; the diagnosis refuses nothing
+abbrev pub Strict : Rule → Type 0
+Strict Span = Unit {0}
+Strict Diagnosis = ⊥
+Strict Stores = Unit {0}
+
+strict-refuses : (rule : Rule) → Strict rule → otherwise rule ≡ Refuses
+strict-refuses Span s = refl
+strict-refuses Stores s = refl
+
 module _ (class : ℕ → Decoded) (image : List ℕ) (load last a : ℕ) where
-  pub clear-goes-on : isClear (siteIn class image load last a .causes) ≡ true → stepIn class Span image load last a ≢ refuses
+  pub accepted-goes-on : (rule : Rule) → accepts rule (inside load last) (siteIn class image load last a) ≡ true → stepIn class rule image load last a ≢ refuses
   unfolding stepIn stepBy
-  clear-goes-on e =
+  accepted-goes-on rule e =
       let s = siteIn class image load last a in
       rw e (fine≢refuses (follow-fine (inside load last) (s .flow) (s .next) (s .target)))
 
-  pub goes-on-clear : stepIn class Span image load last a ≢ refuses → isClear (siteIn class image load last a .causes) ≡ true
+  pub goes-on-accepted : (rule : Rule) → Strict rule → stepIn class rule image load last a ≢ refuses
+      → accepts rule (inside load last) (siteIn class image load last a) ≡ true
   unfolding stepIn stepBy
-  goes-on-clear n = by (isClear (siteIn class image load last a .causes)) _ n
+  goes-on-accepted rule strict n = by (accepts rule (inside load last) (siteIn class image load last a)) _ (rw (strict-refuses rule strict) at n)
     where
       by : (b : Bool) (x : Step) → asStep (cond b x Refuses) ≢ refuses → b ≡ true
       by true x n = refl

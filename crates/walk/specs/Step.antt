@@ -82,12 +82,21 @@ leaves inside Stop target = false
 leaves inside Refuse target = false
 
 -- ── the step ──
--- Span: any cause refuses. Diagnosis: a cause ends the path, but for the two of a pointer. Stores: any cause but these two refuses, and so does leaving.
+-- Which sites a rule passes. Span: those without a cause. Diagnosis: those with no cause but the two of a pointer. Stores: of these, those from which control
+-- does not leave.
+abbrev pub accepts : Rule → (inside : ℕ → Bool) → Site → Bool
+accepts Span inside s = isClear (s .causes)
+accepts Diagnosis inside s = isPassable (s .causes)
+accepts Stores inside s = isPassable (s .causes) && not (leaves inside (s .flow) (s .target))
+
+-- at any other site the diagnosis ends the path, and span and stores are refused
+abbrev pub otherwise : Rule → Step
+otherwise Span = Refuses
+otherwise Diagnosis = Ends
+otherwise Stores = Refuses
+
 unfoldable pub stepBy : Rule → (inside : ℕ → Bool) → Site → Step
-stepBy Span inside s = cond (isClear (s .causes)) (follow inside (s .flow) (s .next) (s .target)) Refuses
-stepBy Diagnosis inside s = cond (isPassable (s .causes)) (follow inside (s .flow) (s .next) (s .target)) Ends
-stepBy Stores inside s =
-    cond (isPassable (s .causes) && not (leaves inside (s .flow) (s .target))) (follow inside (s .flow) (s .next) (s .target)) Refuses
+stepBy rule inside s = cond (accepts rule inside s) (follow inside (s .flow) (s .next) (s .target)) (otherwise rule)
 
 -- the code's step as that of the theory
 abbrev pub asStep : Step → reach.Step

@@ -2,9 +2,9 @@
 use mathlib.Core.Path.{_≡_}
 use mathlib.Core.Bool.{false}
 use mathlib.Core.List.{List}
-use Prim.Native.Nat.{ℕ}
+use Prim.Native.Nat.{ℕ, suc, _-_}
 use lib.ListN.{length}
-use Rattle.lists.specs.Lists.{elem}
+use Rattle.lists.specs.Lists.{elem, scan}
 use Rattle.mos6502.specs.declared.Decoded.{Decoded}
 use Rattle.mos6502.specs.Class.{manualClass}
 use Rattle.image.specs.Image.{inside}
@@ -36,6 +36,10 @@ asEnd (Full pc) = machine.full pc
 abbrev pub Walk : (class : ℕ → Decoded) → Rule → (image : List ℕ) (load last : ℕ) (entries : List ℕ) → machine.End → (met : List ℕ) → Type 0
 Walk class rule image load last entries e met =
     machine.Walk (stepIn class rule image load last) (inside load last) limit limit entries e met
+
+-- what was met, ascending
+abbrev pub ordered : (load last : ℕ) (met : List ℕ) → List ℕ
+ordered load last met = scan (λ a. elem a met) load (suc last - load)
 
 -- a map with no member
 pub record Cleared (map : List ℕ) : Type 0 where

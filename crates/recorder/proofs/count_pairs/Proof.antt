@@ -6,7 +6,8 @@ use native.Mathlib.Omega.{arith}
 use lib.ListN.{length}
 use borrow.Author.Needs.{needs}
 use Rattle.address_set.specs.Next.{Least}
-use Rattle.recorder.proofs.Members.{pairsFrom, found-least, pairs-fewer, pairs-end}
+use Rattle.address_set.proofs.Laws.{found-least}
+use Rattle.recorder.proofs.Members.{pairsFrom, pairs-fewer, pairs-end}
 use Rattle.recorder.proofs.count_pairs.Statement.{statement}
 use Rattle.recorder.proofs.count_pairs.Tie as tie
 
@@ -55,7 +56,7 @@ module _ (c : tie.After-known-told Inv-loop μ-loop) where
   start = turn .before .before
 
   least : Least (start .args .map .now) (turn .loop .from) 0xFFFF a
-  least = found-least _ _ (c .before .before .before .next-in .ensures) (c .before .a .given .1)
+  least = found-least _ _ _ (c .before .before .before .next-in .ensures) (c .before .a .given .1)
 
 add-n : tie.Need-add-n Inv-loop μ-loop
 add-n c = omega (arith, least (c .before .before))

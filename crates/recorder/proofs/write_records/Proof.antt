@@ -8,17 +8,19 @@ use native.Mathlib.Omega.{arith}
 use lib.ListN.{length, length-append, length-map}
 use borrow.Author.Needs.{needs}
 use Rattle.lists.specs.Lists.{scan}
+use Rattle.lists.proofs.Filling.{Filled, filled-none, filled-length, filled-all, filled-room}
 use Rattle.image.specs.declared.Bounds.{Bounds}
 use Rattle.image.specs.declared.Address.{Address}
 use Rattle.image.proofs.Inside.{inside-bounds}
 use Rattle.address_set.specs.Map.{has}
 use Rattle.address_set.specs.Next.{Least}
+use Rattle.address_set.proofs.Laws.{found-least}
 use Rattle.site.specs.Site.{listOf}
 use Rattle.tracker.specs.Track.{nothing, Reached, stateOf}
 use Rattle.tracker.proofs.Passage.{reached-start}
 use Rattle.recorder.specs.Records.{recordsWith}
-use Rattle.recorder.proofs.Members.{recordsFrom, found-least, records-next, records-end}
-use Rattle.recorder.proofs.Filling.{Filled, filled-none, filled-length, filled-all, filled-room, filled-put}
+use Rattle.recorder.proofs.Members.{recordsFrom, records-next, records-end}
+use Rattle.recorder.proofs.Filling.{filled-put}
 use Rattle.recorder.proofs.Sharing.{Ready, ready-inside, ready-outside}
 use Rattle.recorder.proofs.write_records.Statement.{statement}
 use Rattle.recorder.proofs.write_records.Tie as tie
@@ -90,7 +92,7 @@ module _ (c : tie.After-known-told Inv-loop μ-loop) where
   start = turn .before .before .before .before
 
   least : Least (start .args .map .now) (turn .loop .from) 0xFFFF a
-  least = found-least _ _ (c .before .before .before .next-in .ensures) (c .before .a .given .1)
+  least = found-least _ _ _ (c .before .before .before .next-in .ensures) (c .before .a .given .1)
 
 -- where the address is inside
 within : (c : tie.Then1 Inv-loop μ-loop)

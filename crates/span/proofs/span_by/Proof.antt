@@ -5,7 +5,7 @@ use lib.ListN.{length-replicate}
 use borrow.Author.Tests.{not-true, not-false}
 use borrow.Author.Needs.{needs}
 use Rattle.address_set.proofs.Laws.{empty-has}
-use Rattle.span.proofs.Verdict.{refused≢finished, spent≢finished}
+use Rattle.walk.proofs.Possible.{refused≢finished, spent≢finished}
 use Rattle.opening.proofs.First.{opened-as, without-image, without-entries, above-top, image-lies}
 use Rattle.span.proofs.Outcome.{outside, stopped, filled, spanned}
 use Rattle.span.proofs.span_by.Statement.{statement}

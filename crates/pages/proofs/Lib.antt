@@ -1,0 +1,2 @@
+-- The laws behind the pages.
+pub mod Members

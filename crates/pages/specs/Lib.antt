@@ -1,0 +1,3 @@
+-- Where a store through a pointer goes.
+pub mod Pages
+pub mod Surveys

@@ -1,0 +1,2 @@
+-- The table of widths.
+pub mod Table

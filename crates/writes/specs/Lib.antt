@@ -1,0 +1,2 @@
+-- What an instruction writes to memory.
+pub mod Writes
