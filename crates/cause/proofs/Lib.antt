@@ -1,2 +1,3 @@
 -- The laws of causes.
 pub mod Numbers
+pub mod Slugs

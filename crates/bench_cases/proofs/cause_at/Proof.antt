@@ -1,0 +1,47 @@
+-- `bench_cases::cause_at` meets its contract: the last cause stands for every number that no other has.
+use native.Mathlib.Omega.{arith}
+use Rattle.mos6502.proofs.Arms.{past-arms}
+use borrow.Author.Needs.{needs}
+use Rattle.bench_cases.proofs.cause_at.Statement.{statement}
+use Rattle.bench_cases.proofs.cause_at.Tie as tie
+
+returns : tie.Need-returns
+returns c = search needs
+
+returns-2 : tie.Need-returns-2
+returns-2 c = search needs
+
+returns-3 : tie.Need-returns-3
+returns-3 c = search needs
+
+returns-4 : tie.Need-returns-4
+returns-4 c = search needs
+
+returns-5 : tie.Need-returns-5
+returns-5 c = search needs
+
+returns-6 : tie.Need-returns-6
+returns-6 c = search needs
+
+returns-7 : tie.Need-returns-7
+returns-7 c = search needs
+
+returns-8 : tie.Need-returns-8
+returns-8 c = search needs
+
+returns-9 : tie.Need-returns-9
+returns-9 c = λ h. omega (arith, past-arms (c .before .args .number) 8 (c .match .rest))
+
+pub cause-at-spec : {M : Type 1} → statement M
+cause-at-spec =
+    tie.close
+    (tie.spec
+    returns
+    returns-2
+    returns-3
+    returns-4
+    returns-5
+    returns-6
+    returns-7
+    returns-8
+    returns-9)

@@ -1,0 +1,3 @@
+-- The job file.
+pub mod Job
+pub mod Written

@@ -1,0 +1,2 @@
+-- The laws of spelled addresses.
+pub mod Digits

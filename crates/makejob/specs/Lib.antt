@@ -1,0 +1,2 @@
+-- The words and the input of `makejob`.
+pub mod Words

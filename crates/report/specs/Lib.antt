@@ -1,0 +1,3 @@
+-- The report's text, and what `report` answers.
+pub mod Lines
+pub mod Report

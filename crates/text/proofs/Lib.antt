@@ -1,0 +1,2 @@
+-- The laws of numbers as text.
+pub mod Digits

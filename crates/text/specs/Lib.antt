@@ -1,0 +1,2 @@
+-- Numbers as text, and text in a lent buffer.
+pub mod Text
