@@ -5,16 +5,16 @@ use Prim.Native.Nat.{ℕ, _≤_}
 use native.Mathlib.Omega.{arith}
 use lib.ListN.{length, take, drop, length-append, length-drop, length-replicate}
 use Rattle.lists.specs.Text.{ascii}
+use Rattle.text.specs.Text.{Put}
 use Rattle.mos6502.specs.Class.{manualClass}
 use Rattle.writes.specs.Writes.{manualWrites}
-use Rattle.text.specs.Text.{Put}
 use Rattle.span.specs.declared.SpanAnswer.{SpanAnswer}
-use Rattle.diagnosis.specs.declared.DiagAnswer.{DiagAnswer}
-use Rattle.diagnosis.specs.declared.DiagAnswer.the-variants as diag
-use Rattle.diagnosis.specs.Answers as diagnosis
 use Rattle.stores.specs.declared.StoresAnswer.{StoresAnswer}
 use Rattle.stores.specs.declared.StoresAnswer.the-variants as stored
 use Rattle.stores.specs.Answers as stores
+use Rattle.diagnosis.specs.declared.DiagAnswer.{DiagAnswer}
+use Rattle.diagnosis.specs.declared.DiagAnswer.the-variants as diag
+use Rattle.diagnosis.specs.Answers as diagnosis
 use Rattle.report.specs.Lines.{Room, spanLine, diagLines, storesLines}
 use Rattle.report.specs.Report.{refusalSlots, storeSlots, Enough, EnoughStores}
 use Rattle.report.proofs.Joining.{put-both, put-front, room-first, room-second}

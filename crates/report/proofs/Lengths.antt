@@ -15,10 +15,10 @@ use Rattle.cause.proofs.Slugs.{slug-short}
 use Rattle.records.specs.Packed.{causeOf, pointerOf, presentOf, weightOf}
 use Rattle.span.specs.declared.SpanAnswer.{SpanAnswer}
 use Rattle.span.specs.declared.SpanAnswer.the-variants as span
-use Rattle.diagnosis.specs.declared.DiagAnswer.{DiagAnswer}
-use Rattle.diagnosis.specs.declared.DiagAnswer.the-variants as diagnosis
 use Rattle.stores.specs.declared.StoresAnswer.{StoresAnswer}
 use Rattle.stores.specs.declared.StoresAnswer.the-variants as stores
+use Rattle.diagnosis.specs.declared.DiagAnswer.{DiagAnswer}
+use Rattle.diagnosis.specs.declared.DiagAnswer.the-variants as diagnosis
 use Rattle.report.specs.Lines.{none, spanLine, causeAt, pointerWord, recordLine, lines, diagLines, storeLine, storesLines}
 use Rattle.report.specs.Report.{Enough, EnoughStores}
 

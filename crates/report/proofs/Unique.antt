@@ -5,15 +5,15 @@ use Prim.Native.Nat.{ℕ}
 use native.Mathlib.Omega.{arith}
 use lib.ListN.{drop}
 use Rattle.lists.specs.Text.{ascii}
-use Rattle.mos6502.specs.Class.{manualClass}
-use Rattle.writes.specs.Writes.{manualWrites}
 use Rattle.job.specs.declared.JobAnswer.{JobAnswer}
 use Rattle.job.specs.declared.JobAnswer.the-variants.{Read, Short, TooLarge, Wrong}
 use Rattle.job.specs.Job.{jobOf}
+use Rattle.mos6502.specs.Class.{manualClass}
+use Rattle.writes.specs.Writes.{manualWrites}
 use Rattle.site.specs.declared.Reading.the-variants.{Plain, Guarded}
 use Rattle.span.proofs.Unique as span
-use Rattle.diagnosis.proofs.Unique as diagnosis
 use Rattle.stores.proofs.Unique as stores
+use Rattle.diagnosis.proofs.Unique as diagnosis
 use Rattle.report.specs.declared.ReportAnswer.{ReportAnswer}
 use Rattle.report.specs.declared.ReportAnswer.the-variants as report
 use Rattle.report.specs.Lines.{spanLine, diagLines, storesLines}

@@ -5,10 +5,10 @@ use mathlib.Core.List.{List, [], _++_}
 use Prim.Native.Nat.{ℕ, _≤_}
 use lib.ListN.{length, drop}
 use Rattle.mos6502.specs.declared.Decoded.{Decoded}
-use Rattle.writes.specs.declared.Wr.{Wr}
 use Rattle.image.specs.Image.{last}
-use Rattle.opening.specs.Opening.{Ready}
+use Rattle.writes.specs.declared.Wr.{Wr}
 use Rattle.reach.specs.Walk.{End, finished, refused, spent, full}
+use Rattle.opening.specs.Opening.{Ready}
 use Rattle.walk.specs.declared.Rule.the-variants as rule
 use Rattle.walk.specs.Walked.{Walk, ordered}
 use Rattle.walk.specs.Possible.{EntriesInside}

@@ -14,10 +14,10 @@ use Rattle.address_set.specs.declared.Found.{Found}
 use Rattle.address_set.specs.declared.Found.the-variants.{At, Nothing}
 use Rattle.address_set.specs.Next.{Next}
 use Rattle.address_set.proofs.Laws.{next-at, next-nothing}
-use Rattle.site.specs.declared.Site.{Site}
-use Rattle.site.specs.Site.{siteIn}
 use Rattle.tracker.specs.declared.ImmState.{ImmState}
 use Rattle.tracker.specs.Track.{tracked}
+use Rattle.site.specs.declared.Site.{Site}
+use Rattle.site.specs.Site.{siteIn}
 use Rattle.pages.specs.declared.StoreSpan.{StoreSpan}
 use Rattle.pages.specs.declared.StoreSpan.the-variants as span
 use Rattle.pages.specs.declared.Pointer.{Pointer}

@@ -12,14 +12,14 @@ use Rattle.lists.proofs.Tests.{pass, passed, clash}
 use Rattle.lists.proofs.Sets.{elem-same}
 use Rattle.lists.proofs.Scan.{scan-same}
 use Rattle.mos6502.specs.Class.{manualClass}
-use Rattle.writes.specs.Writes.{manualWrites}
 use Rattle.image.specs.declared.Bounds.{Bounds}
 use Rattle.image.specs.Image.{last}
+use Rattle.writes.specs.Writes.{manualWrites}
 use Rattle.address_set.specs.Map.{has}
+use Rattle.reach.specs.Walk.{finished}
 use Rattle.opening.specs.declared.Opening.the-variants as opening
 use Rattle.opening.specs.Opening.{allInside}
 use Rattle.opening.proofs.First.{Opens, ready, all-inside-mem, mem-all-inside}
-use Rattle.reach.specs.Walk.{finished}
 use Rattle.walk.specs.declared.End.{End}
 use Rattle.walk.specs.declared.End.the-variants as end
 use Rattle.walk.specs.declared.Rule.the-variants as rule

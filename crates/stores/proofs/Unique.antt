@@ -11,11 +11,11 @@ use lib.ListN.{length, drop}
 use borrow.Author.Tests.{lt-ltb, le-ltb}
 use Rattle.mos6502.specs.declared.Decoded.{Decoded}
 use Rattle.writes.specs.declared.Wr.{Wr}
+use Rattle.reach.proofs.Unique.{list-unique}
 use Rattle.opening.specs.declared.Opening.{Opening}
 use Rattle.opening.specs.declared.Opening.the-variants as opening
 use Rattle.opening.specs.Opening.{openingOf}
 use Rattle.opening.proofs.First.{Opens, ready, image-empty, no-entries, past-top, opens, opens-unique}
-use Rattle.reach.proofs.Unique.{list-unique}
 use Rattle.walk.specs.declared.Rule.the-variants as rule
 use Rattle.walk.proofs.Possible.{not-full}
 use Rattle.stores.specs.declared.StoresAnswer.{StoresAnswer}

@@ -1,10 +1,10 @@
 -- `report::cause_at` meets its contract: each arm is a place of the list, and past the list stands its default.
-use Rattle.report.specs.Lines.{causes}
-use Rattle.cause.specs.declared.RefusalCause.the-variants.{EntryOutside}
-use Rattle.mos6502.proofs.Arms.{past-arms}
-use lib.ListN.{List·getD-eq-default}
 use mathlib.Core.Path.{sym}
+use lib.ListN.{List·getD-eq-default}
 use borrow.Author.Needs.{needs}
+use Rattle.mos6502.proofs.Arms.{past-arms}
+use Rattle.cause.specs.declared.RefusalCause.the-variants.{EntryOutside}
+use Rattle.report.specs.Lines.{causes}
 use Rattle.report.proofs.cause_at.Statement.{statement}
 use Rattle.report.proofs.cause_at.Tie as tie
 

@@ -1,8 +1,8 @@
 -- `report::deliver` meets its contract: the first n bytes are the text, and they are put at the front where there is room.
-use lib.Seq.{length-take-le}
+use mathlib.Core.Path.{refl, sym, _∙_}
 use native.Mathlib.Omega.{arith}
 use native.Mathlib.Nat.{zero-add}
-use mathlib.Core.Path.{refl, sym, _∙_}
+use lib.Seq.{length-take-le}
 use borrow.Author.Needs.{needs}
 use Rattle.report.proofs.deliver.Statement.{statement}
 use Rattle.report.proofs.deliver.Tie as tie

@@ -1,10 +1,10 @@
 -- `report::put_answers` meets its contract: the four texts are put one after the other, and there is room for them.
-use Rattle.report.proofs.Answering.{first-room, second-room, third-room, fourth-room, all-put, refusals-kept, spans-kept, answers-room}
-use Rattle.report.specs.Lines.{Room, spanLine, diagLines, storesLines}
-use Rattle.lists.specs.Text.{ascii}
-use Prim.Native.Nat.{ℕ}
 use mathlib.Core.List.{List, _++_}
+use Prim.Native.Nat.{ℕ}
 use borrow.Author.Needs.{needs}
+use Rattle.lists.specs.Text.{ascii}
+use Rattle.report.specs.Lines.{Room, spanLine, diagLines, storesLines}
+use Rattle.report.proofs.Answering.{first-room, second-room, third-room, fourth-room, all-put, refusals-kept, spans-kept, answers-room}
 use Rattle.report.proofs.put_answers.Statement.{statement}
 use Rattle.report.proofs.put_answers.Tie as tie
 

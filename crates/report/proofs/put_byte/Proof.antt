@@ -1,7 +1,7 @@
 -- `report::put_byte` meets its contract: one byte is stored.
-use lib.Seq.{sets-eq}
 use mathlib.Core.Path.{refl}
 use mathlib.Core.List.{[], _∷_}
+use lib.Seq.{sets-eq}
 use borrow.Author.Needs.{needs}
 use Rattle.report.proofs.put_byte.Statement.{statement}
 use Rattle.report.proofs.put_byte.Tie as tie

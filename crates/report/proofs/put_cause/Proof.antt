@@ -1,8 +1,8 @@
 -- `report::put_cause` meets its contract: slug and pointer are put, and then what follows.
-use Rattle.report.proofs.Joining.{word-room, rest-room, put-word}
-use Rattle.report.specs.Lines.{pointerWord}
-use Rattle.cause.specs.Cause.{slugOf}
 use borrow.Author.Needs.{needs}
+use Rattle.cause.specs.Cause.{slugOf}
+use Rattle.report.specs.Lines.{pointerWord}
+use Rattle.report.proofs.Joining.{word-room, rest-room, put-word}
 use Rattle.report.proofs.put_cause.Statement.{statement}
 use Rattle.report.proofs.put_cause.Tie as tie
 

@@ -1,7 +1,7 @@
 -- `report::put_count` meets its contract: its words are put one after the other.
-use Rattle.report.proofs.Joining.{put-word}
-use Rattle.lists.specs.Text.{ascii}
 use borrow.Author.Needs.{needs}
+use Rattle.lists.specs.Text.{ascii}
+use Rattle.report.proofs.Joining.{put-word}
 use Rattle.report.proofs.put_count.Statement.{statement}
 use Rattle.report.proofs.put_count.Tie as tie
 

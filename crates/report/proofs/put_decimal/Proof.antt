@@ -1,8 +1,8 @@
 -- `report::put_decimal` meets its contract: the digits are put, and then the byte.
-use Rattle.report.proofs.Joining.{put-both, room-first, room-second}
-use Rattle.text.specs.Text.{decimalOf}
 use mathlib.Core.List.{[], _∷_}
 use borrow.Author.Needs.{needs}
+use Rattle.text.specs.Text.{decimalOf}
+use Rattle.report.proofs.Joining.{put-both, room-first, room-second}
 use Rattle.report.proofs.put_decimal.Statement.{statement}
 use Rattle.report.proofs.put_decimal.Tie as tie
 

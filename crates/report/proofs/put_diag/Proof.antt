@@ -1,10 +1,10 @@
 -- `report::put_diag` meets its contract, arm by arm: the first line and a line for each record, or NONE.
-use Rattle.report.proofs.Joining.{put-both, room-first, room-second}
-use Rattle.report.specs.Lines.{recordLine, lines, summaryLine}
+use mathlib.Core.Path.{sym}
 use lib.Seq.{length-take-le}
 use lib.ListN.{take}
-use mathlib.Core.Path.{sym}
 use borrow.Author.Needs.{needs}
+use Rattle.report.specs.Lines.{recordLine, lines, summaryLine}
+use Rattle.report.proofs.Joining.{put-both, room-first, room-second}
 use Rattle.report.proofs.put_diag.Statement.{statement}
 use Rattle.report.proofs.put_diag.Tie as tie
 

@@ -1,10 +1,10 @@
 -- `report::put_hex` meets its contract: the digits are put, and then the byte.
-use Rattle.report.proofs.Joining.{put-both, room-first, room-second}
-use Rattle.text.proofs.Digits.{hex-length}
-use Rattle.text.specs.Text.{hexOf}
-use native.Mathlib.Omega.{arith}
 use mathlib.Core.List.{[], _∷_}
+use native.Mathlib.Omega.{arith}
 use borrow.Author.Needs.{needs}
+use Rattle.text.specs.Text.{hexOf}
+use Rattle.text.proofs.Digits.{hex-length}
+use Rattle.report.proofs.Joining.{put-both, room-first, room-second}
 use Rattle.report.proofs.put_hex.Statement.{statement}
 use Rattle.report.proofs.put_hex.Tie as tie
 

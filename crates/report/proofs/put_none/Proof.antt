@@ -1,7 +1,7 @@
 -- `report::put_none` meets its contract: its three words are put one after the other.
-use Rattle.report.proofs.Joining.{word-room, rest-room, put-word}
-use Rattle.lists.specs.Text.{ascii}
 use borrow.Author.Needs.{needs}
+use Rattle.lists.specs.Text.{ascii}
+use Rattle.report.proofs.Joining.{word-room, rest-room, put-word}
 use Rattle.report.proofs.put_none.Statement.{statement}
 use Rattle.report.proofs.put_none.Tie as tie
 

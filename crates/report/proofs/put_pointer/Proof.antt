@@ -1,9 +1,9 @@
 -- `report::put_pointer` meets its contract: where the mark is 1, the pointer's two digits are put.
-use borrow.Author.Tests.{eq-eqb, ne-eqb}
-use lib.Dec.{eqb}
-use Prim.Native.Nat.{ℕ}
 use mathlib.Core.Bool.{true, false}
 use mathlib.Core.Path.{_≡_, sym, _∙_}
+use Prim.Native.Nat.{ℕ}
+use lib.Dec.{eqb}
+use borrow.Author.Tests.{eq-eqb, ne-eqb}
 use borrow.Author.Needs.{needs}
 use Rattle.report.proofs.put_pointer.Statement.{statement}
 use Rattle.report.proofs.put_pointer.Tie as tie

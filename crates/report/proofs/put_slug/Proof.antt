@@ -1,8 +1,8 @@
 -- `report::put_slug` meets its contract: the first bytes of the slug's fifteen are put.
-use Rattle.cause.proofs.Slugs.{slug-there, slug-taken}
-use lib.Seq.{length-take-le}
 use mathlib.Core.Path.{sym}
+use lib.Seq.{length-take-le}
 use borrow.Author.Needs.{needs}
+use Rattle.cause.proofs.Slugs.{slug-there, slug-taken}
 use Rattle.report.proofs.put_slug.Statement.{statement}
 use Rattle.report.proofs.put_slug.Tie as tie
 

@@ -1,9 +1,9 @@
 -- `report::put_store` meets its contract: its words are put one after the other.
-use Rattle.report.proofs.Joining.{word-room, rest-room, put-word}
-use Rattle.text.specs.Text.{hexOf}
-use Rattle.lists.specs.Text.{ascii}
 use Prim.Native.Nat.{_/_}
 use borrow.Author.Needs.{needs}
+use Rattle.lists.specs.Text.{ascii}
+use Rattle.text.specs.Text.{hexOf}
+use Rattle.report.proofs.Joining.{word-room, rest-room, put-word}
 use Rattle.report.proofs.put_store.Statement.{statement}
 use Rattle.report.proofs.put_store.Tie as tie
 

@@ -1,8 +1,8 @@
 -- `report::put_summary` meets its contract: its words are put one after the other.
-use Rattle.report.proofs.Joining.{word-room, rest-room, put-word}
-use Rattle.text.specs.Text.{hexOf}
-use Rattle.lists.specs.Text.{ascii}
 use borrow.Author.Needs.{needs}
+use Rattle.lists.specs.Text.{ascii}
+use Rattle.text.specs.Text.{hexOf}
+use Rattle.report.proofs.Joining.{word-room, rest-room, put-word}
 use Rattle.report.proofs.put_summary.Statement.{statement}
 use Rattle.report.proofs.put_summary.Tie as tie
 

@@ -1,7 +1,7 @@
 -- `report::put_word` meets its contract: the word is put, and then the byte.
-use Rattle.report.proofs.Joining.{put-both, room-first, room-second}
 use mathlib.Core.List.{[], _∷_}
 use borrow.Author.Needs.{needs}
+use Rattle.report.proofs.Joining.{put-both, room-first, room-second}
 use Rattle.report.proofs.put_word.Statement.{statement}
 use Rattle.report.proofs.put_word.Tie as tie
 

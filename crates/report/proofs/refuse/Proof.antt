@@ -1,14 +1,14 @@
 -- `report::refuse` meets its contract: its two words are put into a line, and the line is delivered.
-use Rattle.report.proofs.Joining.{put-front, rest-room, put-word}
-use Rattle.report.specs.Lines.{Room, jobLine}
-use Rattle.text.proofs.Digits.{decimal-fits}
-use Rattle.text.specs.Text.{decimalOf, Put}
-use Rattle.lists.specs.Text.{ascii}
-use lib.ListN.{replicate, length-append}
-use native.Mathlib.Omega.{arith}
-use Prim.Native.Nat.{ℕ}
 use mathlib.Core.List.{[], _∷_}
+use Prim.Native.Nat.{ℕ}
+use native.Mathlib.Omega.{arith}
+use lib.ListN.{replicate, length-append}
 use borrow.Author.Needs.{needs}
+use Rattle.lists.specs.Text.{ascii}
+use Rattle.text.specs.Text.{decimalOf, Put}
+use Rattle.text.proofs.Digits.{decimal-fits}
+use Rattle.report.specs.Lines.{Room, jobLine}
+use Rattle.report.proofs.Joining.{put-front, rest-room, put-word}
 use Rattle.report.proofs.refuse.Statement.{statement}
 use Rattle.report.proofs.refuse.Tie as tie
 

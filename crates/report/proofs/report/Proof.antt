@@ -1,9 +1,9 @@
 -- `report::report` meets its contract: a job that is read has its four answers delivered, and a refused one its number.
-use Rattle.report.proofs.Parts.{entries-there, entries-taken, image-there, image-taken, reports-answers, reports-refusal}
+use mathlib.Core.Path.{refl, sym, _∙_}
 use lib.Seq.{length-take-le}
 use lib.ListN.{replicate}
-use mathlib.Core.Path.{refl, sym, _∙_}
 use borrow.Author.Needs.{needs}
+use Rattle.report.proofs.Parts.{entries-there, entries-taken, image-there, image-taken, reports-answers, reports-refusal}
 use Rattle.report.proofs.report.Statement.{statement}
 use Rattle.report.proofs.report.Tie as tie
 

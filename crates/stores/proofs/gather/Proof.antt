@@ -9,8 +9,8 @@ use lib.ListN.{length, length-append}
 use borrow.Author.Needs.{needs}
 use Rattle.lists.proofs.Filling.{Filled, filled-none, filled-length, filled-count, filled-all, filled-room}
 use Rattle.mos6502.specs.Class.{manualClass}
-use Rattle.writes.specs.Writes.{manualWrites}
 use Rattle.image.specs.declared.Bounds.{Bounds}
+use Rattle.writes.specs.Writes.{manualWrites}
 use Rattle.address_set.specs.Next.{Least}
 use Rattle.address_set.proofs.Laws.{found-least}
 use Rattle.tracker.specs.Track.{nothing, Reached, stateOf}

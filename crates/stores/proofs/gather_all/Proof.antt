@@ -1,10 +1,10 @@
 -- `stores::gather_all` meets its contract: after the four passes the arrays hold what the members do with each zero-page byte.
-use Rattle.stores.proofs.Surveying.{surveyed}
-use Rattle.resolver.specs.Resolve.{Blank}
-use Rattle.lists.proofs.Zeros.{zeros-at}
-use lib.ListN.{replicate, length-replicate}
 use Prim.Native.Nat.{ℕ}
+use lib.ListN.{replicate, length-replicate}
 use borrow.Author.Needs.{needs}
+use Rattle.lists.proofs.Zeros.{zeros-at}
+use Rattle.resolver.specs.Resolve.{Blank}
+use Rattle.stores.proofs.Surveying.{surveyed}
 use Rattle.stores.proofs.gather_all.Statement.{statement}
 use Rattle.stores.proofs.gather_all.Tie as tie
 

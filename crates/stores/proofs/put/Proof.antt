@@ -1,15 +1,15 @@
 -- `stores::put` meets its contract: a store has one record or none, and the one is written into the next slot.
-use Rattle.stores.specs.Steps.{Put}
-use Rattle.stores.specs.Stores.{recordsOf}
-use Rattle.pages.specs.declared.StoreSpan.the-variants.{Nothing, Bytes, Anywhere}
-use Rattle.pages.specs.declared.StoreSpan.{StoreSpan}
-use lib.Seq.{sets, sets-eq}
-use lib.ListN.{length}
-use native.Mathlib.Omega.{arith}
-use Prim.Native.Nat.{ℕ, _+_, _≤_}
 use mathlib.Core.List.{List}
 use mathlib.Core.Path.{_≡_, refl, _∙_}
+use Prim.Native.Nat.{ℕ, _+_, _≤_}
+use native.Mathlib.Omega.{arith}
+use lib.Seq.{sets, sets-eq}
+use lib.ListN.{length}
 use borrow.Author.Needs.{needs}
+use Rattle.pages.specs.declared.StoreSpan.the-variants.{Nothing, Bytes, Anywhere}
+use Rattle.pages.specs.declared.StoreSpan.{StoreSpan}
+use Rattle.stores.specs.Steps.{Put}
+use Rattle.stores.specs.Stores.{recordsOf}
 use Rattle.stores.proofs.put.Statement.{statement}
 use Rattle.stores.proofs.put.Tie as tie
 

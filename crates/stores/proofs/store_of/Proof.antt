@@ -1,7 +1,7 @@
 -- `stores::store_of` meets its contract, arm by arm.
-use Rattle.pages.specs.declared.StoreSpan.the-variants.{Bytes}
 use mathlib.Core.Path.{ap}
 use borrow.Author.Needs.{needs}
+use Rattle.pages.specs.declared.StoreSpan.the-variants.{Bytes}
 use Rattle.stores.proofs.store_of.Statement.{statement}
 use Rattle.stores.proofs.store_of.Tie as tie
 

@@ -1,21 +1,21 @@
 -- `stores::write_extent` meets its contract: each of its ways out is one of the answers.
+use mathlib.Core.Bool.{true}
+use mathlib.Core.Path.{_≡_, refl, sym, subst, _∙_}
+use Prim.Native.Nat.{ℕ}
+use native.Mathlib.Omega.{arith}
+use lib.ListN.{replicate, length-replicate}
+use borrow.Author.Tests.{not-true, not-false}
+use borrow.Author.Needs.{needs}
+use Rattle.address_set.proofs.Laws.{empty-has}
+use Rattle.opening.specs.Opening.{allInside}
+use Rattle.opening.specs.declared.Opening.{Opening}
+use Rattle.opening.specs.declared.Opening.the-variants.{At}
+use Rattle.opening.proofs.First.{Opens, opened-as, without-image, without-entries, above-top, image-lies}
+use Rattle.walk.proofs.Possible.{refused≢finished, spent≢finished}
 use Rattle.stores.specs.declared.Gathered.{Gathered}
 use Rattle.stores.specs.declared.Gathered.the-variants.{Records}
 use Rattle.stores.specs.Steps.{GathersIn}
 use Rattle.stores.proofs.Outcome.{outside, stopped, filled, Reached, reached, gather-members, gather-room, no-bound, gathered-there, too-short, copied}
-use Rattle.walk.proofs.Possible.{refused≢finished, spent≢finished}
-use Rattle.opening.proofs.First.{Opens, opened-as, without-image, without-entries, above-top, image-lies}
-use Rattle.opening.specs.Opening.{allInside}
-use Rattle.opening.specs.declared.Opening.{Opening}
-use Rattle.opening.specs.declared.Opening.the-variants.{At}
-use Rattle.address_set.proofs.Laws.{empty-has}
-use borrow.Author.Tests.{not-true, not-false}
-use lib.ListN.{replicate, length-replicate}
-use native.Mathlib.Omega.{arith}
-use Prim.Native.Nat.{ℕ}
-use mathlib.Core.Bool.{true}
-use mathlib.Core.Path.{_≡_, refl, sym, subst, _∙_}
-use borrow.Author.Needs.{needs}
 use Rattle.stores.proofs.write_extent.Statement.{statement}
 use Rattle.stores.proofs.write_extent.Tie as tie
 

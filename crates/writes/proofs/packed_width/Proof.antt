@@ -1,9 +1,9 @@
 -- `writes::packed_width` meets its contract: antt computes the test of the whole table, entry by entry against the manual, and the opcode is one of its 256 places.
-use Rattle.writes.proofs.Table.{entry}
-use Rattle.writes.specs.Writes.{manualWrites}
-use Rattle.mos6502.specs.Manual.{manual}
 use Prim.Native.Nat.{_<_}
 use borrow.Author.Needs.{needs}
+use Rattle.mos6502.specs.Manual.{manual}
+use Rattle.writes.specs.Writes.{manualWrites}
+use Rattle.writes.proofs.Table.{entry}
 use Rattle.writes.proofs.packed_width.Statement.{statement}
 use Rattle.writes.proofs.packed_width.Tie as tie
 

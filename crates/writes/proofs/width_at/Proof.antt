@@ -1,10 +1,10 @@
 -- `writes::width_at` meets its contract: each arm is a place of the list, and past the list stands its default.
+use mathlib.Core.Path.{sym}
+use lib.ListN.{List·getD-eq-default}
+use borrow.Author.Needs.{needs}
+use Rattle.mos6502.proofs.Arms.{past-arms}
 use Rattle.writes.specs.Writes.{widths}
 use Rattle.writes.specs.declared.Wr.the-variants.{IndX}
-use Rattle.mos6502.proofs.Arms.{past-arms}
-use lib.ListN.{List·getD-eq-default}
-use mathlib.Core.Path.{sym}
-use borrow.Author.Needs.{needs}
 use Rattle.writes.proofs.width_at.Statement.{statement}
 use Rattle.writes.proofs.width_at.Tie as tie
 

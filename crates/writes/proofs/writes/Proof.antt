@@ -1,8 +1,8 @@
 -- `writes::writes` meets its contract: what is packed in the table is unpacked again.
-use Rattle.writes.proofs.Table.{width-back}
-use Rattle.writes.specs.Writes.{manualWrites}
 use mathlib.Core.Path.{_∙_}
 use borrow.Author.Needs.{needs}
+use Rattle.writes.specs.Writes.{manualWrites}
+use Rattle.writes.proofs.Table.{width-back}
 use Rattle.writes.proofs.writes.Statement.{statement}
 use Rattle.writes.proofs.writes.Tie as tie
 
