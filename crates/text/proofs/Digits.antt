@@ -21,10 +21,6 @@ hex-length (suc width) n = simp length-append (omega (arith, hex-length width (n
 pub fewer : (k n : ℕ) → n < 10 ^ suc k → n / 10 < 10 ^ k
 fewer k n h = div-lt-iff-lt-mul {k = 10} (omega arith) .1 (rw (← pow-suc 10 k) h)
 
-pub decimal-some : (most n : ℕ) → 1 ≤ length (decimalBy (suc most) n)
-unfolding decimalBy
-decimal-some most n = simp length-append (omega arith)
-
 pub decimal-fits : (most n : ℕ) → length (decimalBy most n) ≤ most
 unfolding decimalBy
 decimal-fits zero n = zero-le
