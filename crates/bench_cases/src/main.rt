@@ -103,23 +103,6 @@ fn put_stores(line: &mut [u8], n: usize, answer: StoresAnswer) -> usize
     }
 }
 
-// The cause that has a number.
-fn cause_at(number: u8) -> RefusalCause
-    ensures { λ r. ⌜ (number < 9 → numberOf r ≡ number) ⌝ }
-{
-    match number {
-        0 => RefusalCause::IllegalOpcode,
-        1 => RefusalCause::Brk,
-        2 => RefusalCause::JmpIndirect,
-        3 => RefusalCause::IndirectIndexedY,
-        4 => RefusalCause::IndirectIndexedX,
-        5 => RefusalCause::OperandOffEnd,
-        6 => RefusalCause::RanOffEnd,
-        7 => RefusalCause::Budget,
-        _ => RefusalCause::EntryOutside,
-    }
-}
-
 fn put_slug(line: &mut [u8], n: usize, cause: RefusalCause) -> usize
     requires { ⌜ n + 16 ≤ length (now line) ⌝ }
     ensures { λ r. ⌜ r ≤ n + 16 ⌝ }
@@ -151,7 +134,11 @@ fn put_site(line: &mut [u8], record: u64) -> usize
     let n = text::put(line, 0, b"R");
     let after_address = put_hex(line, n, 4, records::address_of(record));
     let after_opcode = put_hex(line, after_address, 2, records::opcode_of(record) as u16);
-    put_slug(line, after_opcode, cause_at(records::cause_of(record)))
+    put_slug(
+        line,
+        after_opcode,
+        RefusalCause::from_number(records::cause_of(record)),
+    )
 }
 
 // What the diagnosis found out about it: its pointer, the two flags, its weight.

@@ -1,8 +1,8 @@
 -- The causes of refusal: their numbers and slugs (01, "The diagnosis"). Assumes nothing.
-use mathlib.Core.List.{List, _++_}
+use mathlib.Core.List.{List, [], _∷_, _++_}
 use Prim.Native.Nat.{ℕ, _+_, _-_, _*_}
 use Prim.Native.String.{String}
-use lib.ListN.{length, replicate}
+use lib.ListN.{length, replicate, getD}
 use Rattle.lists.specs.Text.{ascii}
 use Rattle.cause.specs.declared.Slug.{Slug}
 use Rattle.cause.specs.declared.RefusalCause.{RefusalCause}
@@ -18,6 +18,13 @@ numberOf OperandOffEnd = 5
 numberOf RanOffEnd = 6
 numberOf Budget = 7
 numberOf EntryOutside = 8
+
+-- the causes by their numbers, up to the last, which stands for every number past them
+abbrev pub causes : List RefusalCause
+causes = IllegalOpcode ∷ Brk ∷ JmpIndirect ∷ IndirectIndexedY ∷ IndirectIndexedX ∷ OperandOffEnd ∷ RanOffEnd ∷ Budget ∷ []
+
+abbrev pub causeAt : ℕ → RefusalCause
+causeAt n = getD causes n EntryOutside
 
 abbrev pub slugText : RefusalCause → String
 slugText IllegalOpcode = "illegal-opcode"

@@ -1,7 +1,7 @@
 //! Why an instruction is a refused site.
 
 ghost use mathlib.Core.Path.{_≡_};
-ghost use Rattle.cause.specs.Cause.{numberOf, slugOf, padded, keyOf};
+ghost use Rattle.cause.specs.Cause.{numberOf, causeAt, slugOf, padded, keyOf};
 
 pub enum RefusalCause {
     IllegalOpcode,
@@ -42,6 +42,23 @@ impl RefusalCause {
             RefusalCause::RanOffEnd => 6,
             RefusalCause::Budget => 7,
             RefusalCause::EntryOutside => 8,
+        }
+    }
+
+    // The cause that has a number; the last one for every number that no cause has.
+    pub fn from_number(n: u8) -> RefusalCause
+        ensures { λ r. ⌜ r ≡ causeAt n ⌝ }
+    {
+        match n {
+            0 => RefusalCause::IllegalOpcode,
+            1 => RefusalCause::Brk,
+            2 => RefusalCause::JmpIndirect,
+            3 => RefusalCause::IndirectIndexedY,
+            4 => RefusalCause::IndirectIndexedX,
+            5 => RefusalCause::OperandOffEnd,
+            6 => RefusalCause::RanOffEnd,
+            7 => RefusalCause::Budget,
+            8..=255 => RefusalCause::EntryOutside,
         }
     }
 

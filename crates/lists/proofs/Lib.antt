@@ -1,4 +1,5 @@
 -- The laws of those lists.
+pub mod Arms
 pub mod Tests
 pub mod Sets
 pub mod Scan

@@ -11,6 +11,7 @@ use lib.Seq.{length-take-le}
 use Rattle.lists.specs.Text.{ascii}
 use Rattle.text.specs.Text.{hexOf}
 use Rattle.text.proofs.Digits.{hex-length, decimal-fits, decimal-below}
+use Rattle.cause.specs.Cause.{causeAt}
 use Rattle.cause.proofs.Slugs.{slug-short}
 use Rattle.records.specs.Packed.{causeOf, pointerOf, presentOf, weightOf}
 use Rattle.span.specs.declared.SpanAnswer.{SpanAnswer}
@@ -19,7 +20,7 @@ use Rattle.stores.specs.declared.StoresAnswer.{StoresAnswer}
 use Rattle.stores.specs.declared.StoresAnswer.the-variants as stores
 use Rattle.diagnosis.specs.declared.DiagAnswer.{DiagAnswer}
 use Rattle.diagnosis.specs.declared.DiagAnswer.the-variants as diagnosis
-use Rattle.report.specs.Lines.{none, spanLine, causeAt, pointerWord, recordLine, lines, diagLines, storeLine, storesLines}
+use Rattle.report.specs.Lines.{none, spanLine, pointerWord, recordLine, lines, diagLines, storeLine, storesLines}
 use Rattle.report.specs.Report.{Enough, EnoughStores}
 
 -- ── a line ──

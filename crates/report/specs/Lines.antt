@@ -3,12 +3,10 @@ use mathlib.Core.Bool.{cond}
 use mathlib.Core.List.{List, [], _∷_, _++_}
 use Prim.Native.Nat.{ℕ, _+_, _/_, _%_, _≤_}
 use lib.Dec.{eqb}
-use lib.ListN.{length, getD, take}
+use lib.ListN.{length, take}
 use Rattle.lists.specs.Text.{ascii}
 use Rattle.text.specs.Text.{hexOf, decimalOf}
-use Rattle.cause.specs.declared.RefusalCause.{RefusalCause}
-use Rattle.cause.specs.declared.RefusalCause.the-variants.{IllegalOpcode, Brk, JmpIndirect, IndirectIndexedY, IndirectIndexedX, OperandOffEnd, RanOffEnd, Budget, EntryOutside}
-use Rattle.cause.specs.Cause.{slugOf}
+use Rattle.cause.specs.Cause.{causeAt, slugOf}
 use Rattle.records.specs.Packed.{addressOf, causeOf, opcodeOf, pointerOf, presentOf, linearOf, walkOf, weightOf}
 use Rattle.span.specs.declared.SpanAnswer.{SpanAnswer}
 use Rattle.span.specs.declared.SpanAnswer.the-variants as span
@@ -50,13 +48,6 @@ spanLine name span.Refused = none name (span-numbers.numberOf span.Refused)
 spanLine name span.Full = none name (span-numbers.numberOf span.Full)
 
 -- ── DIAG: low, high, instructions, records; and R: address, opcode, slug, pointer or `--`, linear, walk, weight ──
--- the causes by their numbers, up to the last, and the slug of a number
-abbrev pub causes : List RefusalCause
-causes = IllegalOpcode ∷ Brk ∷ JmpIndirect ∷ IndirectIndexedY ∷ IndirectIndexedX ∷ OperandOffEnd ∷ RanOffEnd ∷ Budget ∷ []
-
-abbrev pub causeAt : ℕ → RefusalCause
-causeAt n = getD causes n EntryOutside
-
 -- the pointer is shown where it is present
 abbrev pub pointerWord : (r : ℕ) → List ℕ
 pointerWord r = cond (eqb (presentOf r) 1) (hexOf 2 (pointerOf r)) (ascii "--")

@@ -6,7 +6,7 @@ ghost use Prim.Native.Nat.{_≤_};
 ghost use lib.ListN.{length, take};
 ghost use Rattle.cause.specs.Cause.{slugOf};
 ghost use Rattle.text.specs.Text.{hexOf, decimalOf, Put};
-ghost use Rattle.report.specs.Lines.{Room, none, spanLine, causeAt, pointerWord, flagWords, causeWords, recordLine, lines, countWords, summaryLine, diagLines, storeLine, countLine, storesLines, jobLine};
+ghost use Rattle.report.specs.Lines.{Room, none, spanLine, pointerWord, flagWords, causeWords, recordLine, lines, countWords, summaryLine, diagLines, storeLine, countLine, storesLines, jobLine};
 ghost use Rattle.report.specs.Report.{Enough, EnoughStores, TellsIn, TellsAll, Delivers, Reports};
 use cause::RefusalCause;
 use diagnosis::DiagAnswer;
@@ -92,23 +92,6 @@ fn put_span(out: &mut [u8], n: usize, name: &[u8], answer: SpanAnswer) -> usize
 
 // ── DIAG, R ──
 
-// The cause with a number.
-fn cause_at(n: u8) -> RefusalCause
-    ensures { λ r. ⌜ r ≡ causeAt n ⌝ }
-{
-    match n {
-        0 => RefusalCause::IllegalOpcode,
-        1 => RefusalCause::Brk,
-        2 => RefusalCause::JmpIndirect,
-        3 => RefusalCause::IndirectIndexedY,
-        4 => RefusalCause::IndirectIndexedX,
-        5 => RefusalCause::OperandOffEnd,
-        6 => RefusalCause::RanOffEnd,
-        7 => RefusalCause::Budget,
-        8..=255 => RefusalCause::EntryOutside,
-    }
-}
-
 fn put_slug(out: &mut [u8], n: usize, cause: RefusalCause) -> usize
     requires { ⌜ Room (now out) n (slugOf cause ++ 0x20 ∷ []) ⌝ }
     ensures { λ r. ⌜ Put (now (out .entry)) n (slugOf cause ++ 0x20 ∷ []) r (now (out .exit)) ⌝ }
@@ -147,7 +130,7 @@ fn put_cause(out: &mut [u8], n: usize, r: u64) -> usize
     requires { ⌜ Room (now out) n (causeWords r) ⌝ }
     ensures { λ m. ⌜ Put (now (out .entry)) n (causeWords r) m (now (out .exit)) ⌝ }
 {
-    let cause = cause_at(records::cause_of(r));
+    let cause = RefusalCause::from_number(records::cause_of(r));
     let a = put_slug(out, n, cause);
     let b = put_pointer(out, a, r);
     put_flags(out, b, r)

@@ -3,7 +3,7 @@ use mathlib.Core.Path.{sym}
 use lib.ListN.{List·getD-eq-default}
 use Rattle.mos6502.specs.declared.Flow.the-variants.{Refuse}
 use Rattle.mos6502.specs.Packed.{flows}
-use Rattle.mos6502.proofs.Arms.{past-arms}
+use Rattle.lists.proofs.Arms.{past-arms}
 use borrow.Author.Needs.{needs}
 use Rattle.mos6502.proofs.flow_at.Statement.{statement}
 use Rattle.mos6502.proofs.flow_at.Tie as tie

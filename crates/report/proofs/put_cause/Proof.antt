@@ -9,21 +9,21 @@ use Rattle.report.proofs.put_cause.Tie as tie
 cause-of-requires : tie.Need-cause-of-requires
 cause-of-requires c κs = search needs
 
-cause-at-requires : tie.Need-cause-at-requires
-cause-at-requires c κs = search needs
+from-number-requires : tie.Need-from-number-requires
+from-number-requires c κs = search needs
 
 put-slug-requires : tie.Need-put-slug-requires
 put-slug-requires c κs =
     let known = c .before in
     let start = c .before .before .before .before in
-    word-room (slugOf (known .cause-at .result)) 0x20 _ (rw (← known .before .cause-of .ensures, ← known .cause-at .ensures) at (start .pre))
+    word-room (slugOf (known .from-number .result)) 0x20 _ (rw (← known .before .cause-of .ensures, ← known .from-number .ensures) at (start .pre))
 
 put-pointer-requires : tie.Need-put-pointer-requires
 put-pointer-requires c κs =
     let first = c .before .before .before in
     let known = first .before .before in
     let start = first .before .before .before .before .before in
-    word-room (pointerWord (start .args .r)) 0x20 _ (rest-room (slugOf (known .cause-at .result)) 0x20 _ (rw (← known .before .cause-of .ensures, ← known .cause-at .ensures) at (start .pre)) (first .put-slug .ensures))
+    word-room (pointerWord (start .args .r)) 0x20 _ (rest-room (slugOf (known .from-number .result)) 0x20 _ (rw (← known .before .cause-of .ensures, ← known .from-number .ensures) at (start .pre)) (first .put-slug .ensures))
 
 put-flags-requires : tie.Need-put-flags-requires
 put-flags-requires c κs =
@@ -31,7 +31,7 @@ put-flags-requires c κs =
     let first = second .before .before .before .before in
     let known = first .before .before in
     let start = first .before .before .before .before .before in
-    let left = rest-room (slugOf (known .cause-at .result)) 0x20 _ (rw (← known .before .cause-of .ensures, ← known .cause-at .ensures) at (start .pre)) (first .put-slug .ensures) in
+    let left = rest-room (slugOf (known .from-number .result)) 0x20 _ (rw (← known .before .cause-of .ensures, ← known .from-number .ensures) at (start .pre)) (first .put-slug .ensures) in
     rest-room (pointerWord (start .args .r)) 0x20 _ left (second .put-pointer .ensures)
 
 same-length : tie.Need-same-length
@@ -44,15 +44,15 @@ returns c =
     let first = second .before .before .before .before in
     let known = first .before .before in
     let start = first .before .before .before .before .before in
-    let left = rest-room (slugOf (known .cause-at .result)) 0x20 _ (rw (← known .before .cause-of .ensures, ← known .cause-at .ensures) at (start .pre)) (first .put-slug .ensures) in
-    rw (← known .before .cause-of .ensures, ← known .cause-at .ensures) (put-word (slugOf (known .cause-at .result)) 0x20 _ (rw (← known .before .cause-of .ensures, ← known .cause-at .ensures) at (start .pre)) (first .put-slug .ensures) (put-word (pointerWord (start .args .r)) 0x20 _ left (second .put-pointer .ensures) (third .put-flags .ensures)))
+    let left = rest-room (slugOf (known .from-number .result)) 0x20 _ (rw (← known .before .cause-of .ensures, ← known .from-number .ensures) at (start .pre)) (first .put-slug .ensures) in
+    rw (← known .before .cause-of .ensures, ← known .from-number .ensures) (put-word (slugOf (known .from-number .result)) 0x20 _ (rw (← known .before .cause-of .ensures, ← known .from-number .ensures) at (start .pre)) (first .put-slug .ensures) (put-word (pointerWord (start .args .r)) 0x20 _ left (second .put-pointer .ensures) (third .put-flags .ensures)))
 
 pub put-cause-spec : {M : Type 1} → statement M
 put-cause-spec =
     tie.close
     (tie.spec
     cause-of-requires
-    cause-at-requires
+    from-number-requires
     put-slug-requires
     put-pointer-requires
     put-flags-requires

@@ -2,7 +2,7 @@
 use mathlib.Core.Path.{sym}
 use lib.ListN.{List·getD-eq-default}
 use borrow.Author.Needs.{needs}
-use Rattle.mos6502.proofs.Arms.{past-arms}
+use Rattle.lists.proofs.Arms.{past-arms}
 use Rattle.writes.specs.Writes.{widths}
 use Rattle.writes.specs.declared.Wr.the-variants.{IndX}
 use Rattle.writes.proofs.width_at.Statement.{statement}

@@ -1,12 +1,12 @@
--- `report::cause_at` meets its contract: each arm is a place of the list, and past the list stands its default.
+-- `cause::RefusalCause::from_number` meets its contract: each arm is a place of the list, and past the list stands its default.
 use mathlib.Core.Path.{sym}
 use lib.ListN.{List·getD-eq-default}
 use borrow.Author.Needs.{needs}
-use Rattle.mos6502.proofs.Arms.{past-arms}
+use Rattle.lists.proofs.Arms.{past-arms}
 use Rattle.cause.specs.declared.RefusalCause.the-variants.{EntryOutside}
-use Rattle.report.specs.Lines.{causes}
-use Rattle.report.proofs.cause_at.Statement.{statement}
-use Rattle.report.proofs.cause_at.Tie as tie
+use Rattle.cause.specs.Cause.{causes}
+use Rattle.cause.proofs.RefusalCause.from_number.Statement.{statement}
+use Rattle.cause.proofs.RefusalCause.from_number.Tie as tie
 
 returns : tie.Need-returns
 returns c = search needs
@@ -35,8 +35,8 @@ returns-8 c = search needs
 returns-9 : tie.Need-returns-9
 returns-9 c = sym (List·getD-eq-default causes EntryOutside (past-arms (c .before .args .n) 8 (c .match .rest)))
 
-pub cause-at-spec : {M : Type 1} → statement M
-cause-at-spec =
+pub from-number-spec : {M : Type 1} → statement M
+from-number-spec =
     tie.close
     (tie.spec
     returns
