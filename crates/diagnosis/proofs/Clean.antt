@@ -34,8 +34,9 @@ use Rattle.walk.proofs.Rules.{diagnosis-goes-on, clear-same}
 use Rattle.extent.specs.Extent.{isSkipped}
 use Rattle.recorder.specs.Recorded.{undecodedOf, causesAt, pairsAt, pairsOver}
 use Rattle.diagnosis.specs.declared.Summary.{Summary}
-use Rattle.diagnosis.specs.declared.DiagAnswer.the-variants.{Answered}
-use Rattle.diagnosis.specs.Answers.{Finds, Answers}
+use Rattle.diagnosis.specs.declared.DiagAnswer.{DiagAnswer}
+use Rattle.diagnosis.specs.declared.DiagAnswer.the-variants.{Answered, ImageEmpty, NoEntries, PastTop, Short, Full}
+use Rattle.diagnosis.specs.Answers.{numberOf, valuesOf, Finds, Answers}
 
 -- ── where nothing is recorded ──
 empty : {A : Type 0} (l : List A) → length l ≡ 0 → l ≡ []
@@ -182,3 +183,16 @@ pub clean-answer : (class : ℕ → Decoded) (image : List ℕ) (load : ℕ) (en
 clean-answer class image load entries slots slots′ s a =
     let c = clean-iff class image load entries (a .1) in
     (λ e. c .0 (sym (a .3) ∙ e), λ d. a .3 ∙ c .1 d)
+
+-- where a span is possible, the diagnosis answers with no record, whatever list is lent, and leaves the list as it was
+pub undisturbed : (class : ℕ → Decoded) (image : List ℕ) (load : ℕ) (entries : List ℕ) → (l : List ℕ) × Possible class Span image load entries l
+    → (slots slots′ : List ℕ) (r : DiagAnswer) → Answers class image load entries slots slots′ r
+    → (numberOf r ≡ 0) × (valuesOf r .records ≡ 0) × (slots′ ≡ slots)
+undisturbed class image load entries p slots slots′ ImageEmpty a = absurd (omega (arith, p .1 .ready))
+undisturbed class image load entries p slots slots′ NoEntries a = absurd (omega (arith, p .1 .ready))
+undisturbed class image load entries p slots slots′ PastTop a = absurd (omega (arith, p .1 .ready))
+undisturbed class image load entries p slots slots′ Full a = absurd (never-full entries (le-refl limit) (a .1 .2) (a .1 .0) refl)
+undisturbed class image load entries p slots slots′ (Short needed) a = absurd (omega (arith, clean-iff class image load entries (a .1) .1 p))
+undisturbed class image load entries p slots slots′ (Answered t) a =
+    let none = empty (a .0) (clean-iff class image load entries (a .1) .1 p) in
+    (refl, clean-answer class image load entries slots slots′ t a .1 p, rw none at (a .5))

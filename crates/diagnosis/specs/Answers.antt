@@ -31,14 +31,17 @@ numberOf PastTop = 3
 numberOf (Short needed) = 6
 numberOf Full = 7
 
--- the number of records needed, in a refusal for a list too short
-abbrev pub neededOf : DiagAnswer → ℕ
-neededOf (Answered s) = 0
-neededOf ImageEmpty = 0
-neededOf NoEntries = 0
-neededOf PastTop = 0
-neededOf (Short needed) = needed
-neededOf Full = 0
+-- low, high, the number of addresses met and that of records; a refusal's are 0, but for the number of records that a list too short would need
+abbrev wanting : (needed : ℕ) → Summary
+wanting needed = record { low = 0; high = 0; count = 0; records = needed }
+
+abbrev pub valuesOf : DiagAnswer → Summary
+valuesOf (Answered s) = s
+valuesOf ImageEmpty = wanting 0
+valuesOf NoEntries = wanting 0
+valuesOf PastTop = wanting 0
+valuesOf (Short needed) = wanting needed
+valuesOf Full = wanting 0
 
 -- ── what is found ──
 module _ (class : ℕ → Decoded) (image : List ℕ) (load : ℕ) (entries : List ℕ) where

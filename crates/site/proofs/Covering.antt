@@ -1,6 +1,7 @@
 -- The run of an operand and the test of what it names are one rule: the run's ends are named, and all that is named lies between them. Said of the
 -- comparisons that the tests stand for, each case is arithmetic.
-use mathlib.Core.Path.{_≡_}
+use mathlib.Core.Path.{_≡_, refl}
+use mathlib.Core.Logic.{_↔_}
 use mathlib.Core.Bool.{Bool, true, false, cond, _&&_}
 use Prim.Native.Nat.{ℕ, _≤_, _<_, min, max}
 use native.Mathlib.Omega.{arith}
@@ -114,3 +115,30 @@ pub names-inside : (reading : Reading) (load last : ℕ) (s : Site) (x : ℕ) �
 names-inside reading load last s x t =
     let width = widthOf (s .mode) in
     named-inside reading width load last (s .operand) x (tests-named reading width load last (s .operand) x .fact (and-right (s .whole) _ t))
+
+-- ── in another image ──
+-- one that lies within the first, and round all that the operand names there: the operand names the same
+module _ (load last load′ last′ base : ℕ) where
+  named-there : (reading : Reading) (width : Width) → last < 65536 → ((x : ℕ) → NamedBy reading width load last base x → Between load′ last′ x) → (x : ℕ)
+      → NamedBy reading width load last base x → NamedBy reading width load′ last′ base x
+  named-there reading Nothing top around x k = k
+  named-there reading Base top around x k = (around base (k .0, refl), k .1)
+  named-there Plain Page top around x k = ((around base ((k .0 .0, omega arith), omega arith), k .0 .1), around x k .1)
+  named-there Guarded Page top around x k = (k .0, around x k)
+
+  named-back : (reading : Reading) (width : Width) → load ≤ load′ → last′ ≤ last → (x : ℕ) → NamedBy reading width load′ last′ base x
+      → NamedBy reading width load last base x
+  named-back reading Nothing from-load to-last x k = k
+  named-back reading Base from-load to-last x k = (omega arith, k .1)
+  named-back Plain Page from-load to-last x k = ((omega arith, k .0 .1), omega arith)
+  named-back Guarded Page from-load to-last x k = (k .0, omega arith)
+
+  pub names-same : (reading : Reading) (width : Width) → last < 65536 → load ≤ load′ → last′ ≤ last
+      → ((x : ℕ) → T (namesBy reading width load last base x) → (load′ ≤ x) × (x ≤ last′)) → (x : ℕ)
+      → T (namesBy reading width load last base x) ↔ T (namesBy reading width load′ last′ base x)
+  names-same reading width top from-load to-last around x =
+      let here = tests-named reading width load last base in
+      let there = tests-named reading width load′ last′ base in (
+        λ t. there x .test (named-there reading width top (λ y k. around y (here y .test k)) x (here x .fact t)),
+        λ t. here x .test (named-back reading width from-load to-last x (there x .fact t)),
+      )

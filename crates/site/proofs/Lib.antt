@@ -2,3 +2,4 @@
 pub mod Assembly
 pub mod Size
 pub mod Covering
+pub mod Local

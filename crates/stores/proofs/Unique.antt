@@ -51,7 +51,7 @@ module _ (class : ℕ → Decoded) (writes : ℕ → Wr) (image : List ℕ) (loa
   first : {o : Opening} → Opens image load entries o → openingOf image load entries ≡ o
   first o = opens-unique image load entries (opens image load entries) o
 
-  one-list : {l k : List ℕ} → Reaches class writes image load entries l → Reaches class writes image load entries k → l ≡ k
+  pub one-list : {l k : List ℕ} → Reaches class writes image load entries l → Reaches class writes image load entries k → l ≡ k
   one-list p q = list-unique (p .reachable) (q .reachable)
 
   pub decided : (slots slots′ : List ℕ) (r : StoresAnswer) → Answers class writes image load entries slots slots′ r → (found : Option (List ℕ)) × Decides found

@@ -3,3 +3,4 @@ pub mod Link
 pub mod Members
 pub mod Rules
 pub mod Possible
+pub mod Local
