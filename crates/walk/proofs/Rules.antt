@@ -19,7 +19,7 @@ use Rattle.walk.specs.declared.Step.{Step}
 use Rattle.walk.specs.declared.Step.the-variants.{Ends, Refuses, Goes, Forks}
 use Rattle.walk.specs.declared.Rule.{Rule}
 use Rattle.walk.specs.declared.Rule.the-variants.{Span, Diagnosis, Stores}
-use Rattle.walk.specs.Step.{goesTo, forksTo, follow, isClear, isPassable, accepts, otherwise, stepBy, asStep}
+use Rattle.walk.specs.Step.{goesTo, forksTo, follow, calls, isClear, isPassable, accepts, otherwise, stepBy, asStep}
 use Rattle.walk.specs.Walked.{stepIn}
 
 goes-fine : (a : Address) → Fine (asStep (goesTo a))
@@ -43,6 +43,14 @@ follow-fine inside Branch next target = forks-fine inside next target
 follow-fine inside Stop next target = tt
 follow-fine inside Refuse next target = tt
 
+calls-fine : (f : Flow) (target : Address) → Fine (asStep (calls f target))
+calls-fine Call target = goes-fine target
+calls-fine Next target = tt
+calls-fine Jump target = tt
+calls-fine Branch target = tt
+calls-fine Stop target = tt
+calls-fine Refuse target = tt
+
 -- ── a rule ──
 -- a rule that refuses what it does not pass; the diagnosis refuses nothing
 abbrev pub Strict : Rule → Type 0
@@ -50,9 +58,9 @@ Strict Span = Unit {0}
 Strict Diagnosis = ⊥
 Strict Stores = Unit {0}
 
-strict-refuses : (rule : Rule) → Strict rule → otherwise rule ≡ Refuses
-strict-refuses Span s = refl
-strict-refuses Stores s = refl
+strict-refuses : (rule : Rule) → Strict rule → (f : Flow) (target : Address) → otherwise rule f target ≡ Refuses
+strict-refuses Span s f target = refl
+strict-refuses Stores s f target = refl
 
 module _ (class : ℕ → Decoded) (image : List ℕ) (load last a : ℕ) where
   pub accepted-goes-on : (rule : Rule) → accepts rule (inside load last) (siteIn class image load last a) ≡ true → stepIn class rule image load last a ≢ refuses
@@ -64,7 +72,9 @@ module _ (class : ℕ → Decoded) (image : List ℕ) (load last a : ℕ) where
   pub goes-on-accepted : (rule : Rule) → Strict rule → stepIn class rule image load last a ≢ refuses
       → accepts rule (inside load last) (siteIn class image load last a) ≡ true
   unfolding stepIn stepBy
-  goes-on-accepted rule strict n = by (accepts rule (inside load last) (siteIn class image load last a)) _ (rw (strict-refuses rule strict) at n)
+  goes-on-accepted rule strict n =
+      let s = siteIn class image load last a in
+      by (accepts rule (inside load last) s) _ (rw (strict-refuses rule strict (s .flow) (s .target)) at n)
     where
       by : (b : Bool) (x : Step) → asStep (cond b x Refuses) ≢ refuses → b ≡ true
       by true x n = refl
@@ -75,18 +85,18 @@ module _ (class : ℕ → Decoded) (image : List ℕ) (load last a : ℕ) where
   unfolding stepIn stepBy
   diagnosis-goes-on =
       let s = siteIn class image load last a in
-      fine≢refuses (by (isPassable (s .causes)) (follow (inside load last) (s .flow) (s .next) (s .target)) (follow-fine (inside load last) (s .flow) (s .next) (s .target)))
+      fine≢refuses (by (isPassable (s .causes)) _ _ (follow-fine (inside load last) (s .flow) (s .next) (s .target)) (calls-fine (s .flow) (s .target)))
     where
-      by : (b : Bool) (x : Step) → Fine (asStep x) → Fine (asStep (cond b x Ends))
-      by true x f = f
-      by false x f = tt
+      by : (b : Bool) (x y : Step) → Fine (asStep x) → Fine (asStep y) → Fine (asStep (cond b x y))
+      by true x y f g = f
+      by false x y f g = g
 
   -- at a site without a cause the two rules have one step
   pub clear-same : isClear (siteIn class image load last a .causes) ≡ true → stepIn class Span image load last a ≡ stepIn class Diagnosis image load last a
   unfolding stepIn stepBy
-  clear-same e = by (siteIn class image load last a .causes) _ e
+  clear-same e = by (siteIn class image load last a .causes) _ _ e
     where
-      by : (c : Causes) (x : Step) → isClear c ≡ true → asStep (cond (isClear c) x Refuses) ≡ asStep (cond (isPassable c) x Ends)
-      by Clear x e = refl
-      by (One c) x e = absurd (false≢true e)
-      by (Two c d) x e = absurd (false≢true e)
+      by : (c : Causes) (x y : Step) → isClear c ≡ true → asStep (cond (isClear c) x Refuses) ≡ asStep (cond (isPassable c) x y)
+      by Clear x y e = refl
+      by (One c) x y e = absurd (false≢true e)
+      by (Two c d) x y e = absurd (false≢true e)

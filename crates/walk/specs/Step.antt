@@ -89,14 +89,23 @@ accepts Span inside s = isClear (s .causes)
 accepts Diagnosis inside s = isPassable (s .causes)
 accepts Stores inside s = isPassable (s .causes) && not (leaves inside (s .flow) (s .target))
 
--- at any other site the diagnosis ends the path, and span and stores are refused
-abbrev pub otherwise : Rule → Step
-otherwise Span = Refuses
-otherwise Diagnosis = Ends
-otherwise Stores = Refuses
+-- A call whose next address is past last still has its target: the original puts that by before it looks for the next address. Any other path ends.
+abbrev pub calls : Flow → (target : Address) → Step
+calls Call target = goesTo target
+calls Next target = Ends
+calls Jump target = Ends
+calls Branch target = Ends
+calls Stop target = Ends
+calls Refuse target = Ends
+
+-- at any other site the diagnosis ends the path, but for a call's target, and span and stores are refused
+abbrev pub otherwise : Rule → Flow → (target : Address) → Step
+otherwise Span flow target = Refuses
+otherwise Diagnosis flow target = calls flow target
+otherwise Stores flow target = Refuses
 
 unfoldable pub stepBy : Rule → (inside : ℕ → Bool) → Site → Step
-stepBy rule inside s = cond (accepts rule inside s) (follow inside (s .flow) (s .next) (s .target)) (otherwise rule)
+stepBy rule inside s = cond (accepts rule inside s) (follow inside (s .flow) (s .next) (s .target)) (otherwise rule (s .flow) (s .target))
 
 -- the code's step as that of the theory
 abbrev pub asStep : Step → reach.Step

@@ -6,7 +6,7 @@ ghost use lib.ListN.{set};
 ghost use Rattle.mos6502.specs.Class.{manualClass};
 ghost use Rattle.image.specs.Image.{Lies, inside};
 ghost use Rattle.site.specs.Site.{siteIn};
-ghost use Rattle.walk.specs.Step.{goesTo, forksTo, follow, isClear, isPointer, isPassable, isAccepted, isOutside, isLost, leaves, stepBy};
+ghost use Rattle.walk.specs.Step.{goesTo, forksTo, follow, calls, isClear, isPointer, isPassable, isAccepted, isOutside, isLost, leaves, stepBy};
 ghost use Rattle.walk.specs.Walked.{Cleared, Walked};
 use cause::RefusalCause;
 use image::Address;
@@ -81,6 +81,20 @@ fn follow(bounds: Bounds, flow: Flow, next: Address, target: Address) -> Step
         Flow::Jump => goes_to(target),
         Flow::Call => forks_to(bounds, next, target),
         Flow::Branch => forks_to(bounds, next, target),
+        Flow::Stop => Step::Ends,
+        Flow::Refuse => Step::Ends,
+    }
+}
+
+// Where a refused site still leads: a call that runs off the end has its target.
+fn calls(flow: Flow, target: Address) -> Step
+    ensures { λ r. ⌜ r ≡ calls flow target ⌝ }
+{
+    match flow {
+        Flow::Call => goes_to(target),
+        Flow::Next => Step::Ends,
+        Flow::Jump => Step::Ends,
+        Flow::Branch => Step::Ends,
         Flow::Stop => Step::Ends,
         Flow::Refuse => Step::Ends,
     }
@@ -180,7 +194,7 @@ pub fn step_of(s: Site, bounds: Bounds, rule: Rule) -> Step
             if is_passable(causes) {
                 return follow(bounds, flow, next, target);
             }
-            Step::Ends
+            calls(flow, target)
         }
         Rule::Stores => {
             if is_passable(causes) {

@@ -35,6 +35,9 @@ returns-2 c =
     let t = c .before .before in
     rw (t .before .enum-told2 .given .1, sym (t .is-passable .ensures) ∙ c .before .if2 .taken) (c .follow2 .ensures)
 
+calls-requires : tie.Need-calls-requires
+calls-requires c κs = search needs
+
 enum-told-3 : tie.Need-enum-told-3
 enum-told-3 c = search needs
 
@@ -71,8 +74,8 @@ returns-5 c =
 returns-6 : tie.Need-returns-6
 unfolding stepBy
 returns-6 c =
-    let t = c .before in
-    rw (t .before .enum-told2 .given .1, sym (t .is-passable .ensures) ∙ c .if2 .left)
+    let t = c .before .before in
+    rw (t .before .enum-told2 .given .1, sym (t .is-passable .ensures) ∙ c .before .if2 .left) (c .calls .ensures)
 
 returns-7 : tie.Need-returns-7
 unfolding stepBy
@@ -92,6 +95,7 @@ step-of-spec =
     is-passable-requires
     follow-requires-2
     returns-2
+    calls-requires
     enum-told-3
     is-passable-requires-2
     leaves-requires
