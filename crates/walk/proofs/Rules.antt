@@ -16,7 +16,7 @@ use Rattle.site.specs.Site.{siteIn}
 use Rattle.reach.specs.Reach.{refuses}
 use Rattle.reach.proofs.Complete.{Fine, fine≢refuses}
 use Rattle.walk.specs.declared.Step.{Step}
-use Rattle.walk.specs.declared.Step.the-variants.{Ends, Refuses, Goes, Forks}
+use Rattle.walk.specs.declared.Step.the-variants.{Refuses, Goes, Forks}
 use Rattle.walk.specs.declared.Rule.{Rule}
 use Rattle.walk.specs.declared.Rule.the-variants.{Span, Diagnosis, Stores}
 use Rattle.walk.specs.Step.{goesTo, forksTo, follow, calls, isClear, isPassable, accepts, otherwise, stepBy, asStep}
