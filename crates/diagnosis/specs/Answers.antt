@@ -32,7 +32,7 @@ numberOf (Short needed) = 6
 numberOf Full = 7
 
 -- low, high, the number of addresses met and that of records; a refusal's are 0, but for the number of records that a list too short would need
-abbrev wanting : (needed : ℕ) → Summary
+abbrev pub wanting : (needed : ℕ) → Summary
 wanting needed = record { low = 0; high = 0; count = 0; records = needed }
 
 abbrev pub valuesOf : DiagAnswer → Summary

@@ -1,0 +1,2 @@
+-- The theorems on the face.
+pub mod Unique

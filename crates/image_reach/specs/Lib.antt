@@ -1,0 +1,2 @@
+-- What the face tells other languages.
+pub mod Face
