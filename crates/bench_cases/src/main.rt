@@ -1,281 +1,83 @@
 //! Runs the cases of 01's bench through the public calls, and writes what each call answers.
 
-ghost use mathlib.Core.Path.{_≡_};
-ghost use Prim.Native.Nat.{_+_, _≤_, _<_};
+ghost use Prim.Native.Nat.{_+_, _≤_};
 ghost use lib.ListN.{length};
-ghost use Rattle.cause.specs.Cause.{numberOf};
-use cause::RefusalCause;
-use diagnosis::DiagAnswer;
 use libc::STDOUT_FILENO;
+use report::LINE_END;
+use report::SPACE;
 use span::SpanAnswer;
-use stores::StoresAnswer;
 
-// ── parts of a line, each put at `n`; where the next one goes ──
-// What a line begins with: the case's name and the call's.
-fn put_heading(line: &mut [u8], name: &[u8], call: &[u8]) -> usize
-    requires { ⌜ (length (now name) ≤ 32) × (length (now call) ≤ 8) × (42 ≤ length (now line)) ⌝ }
-    ensures { λ r. ⌜ r ≤ 42 ⌝ }
+// ── lines, each put at `n`; where the next one goes ──
+
+// The name of a case.
+fn put_name(out: &mut [u8], name: &[u8]) -> usize
+    requires { ⌜ (length (now name) ≤ 32) × (38 ≤ length (now out)) ⌝ }
+    ensures { λ r. ⌜ r ≤ 38 ⌝ }
 {
-    let n = text::put(line, 0, name);
-    let next = text::put(line, n, b": ");
-    text::put(line, next, call)
+    let n = report::put_word(out, 0, b"CASE", SPACE);
+    report::put_word(out, n, name, LINE_END)
 }
 
-fn put_hex(line: &mut [u8], n: usize, width: usize, value: u16) -> usize
-    requires { ⌜ n + 1 + width ≤ length (now line) ⌝ }
-    ensures { λ r. ⌜ r ≡ n + 1 + width ⌝ }
+// A span, and its count where it was given.
+fn put_counted(out: &mut [u8], n: usize, call: &[u8], answer: SpanAnswer) -> usize
+    requires { ⌜ (length (now call) ≤ 7) × (n + 67 ≤ length (now out)) ⌝ }
+    ensures { λ r. ⌜ r ≤ n + 67 ⌝ }
 {
-    let next = text::put(line, n, b" ");
-    text::put_hex(line, next, width, value)
-}
-
-fn put_count(line: &mut [u8], n: usize, value: u64) -> usize
-    requires { ⌜ n + 21 ≤ length (now line) ⌝ }
-    ensures { λ r. ⌜ r ≤ n + 21 ⌝ }
-{
-    let next = text::put(line, n, b" ");
-    text::put_decimal(line, next, value)
-}
-
-// A range and the number of addresses met in it.
-fn put_range(line: &mut [u8], n: usize, low: u16, high: u16, count: u32) -> usize
-    requires { ⌜ n + 31 ≤ length (now line) ⌝ }
-    ensures { λ r. ⌜ r ≤ n + 31 ⌝ }
-{
-    let after_low = put_hex(line, n, 4, low);
-    let after_high = put_hex(line, after_low, 4, high);
-    put_count(line, after_high, count as u64)
-}
-
-// A refusal's number.
-fn put_none(line: &mut [u8], n: usize, number: u64) -> usize
-    requires { ⌜ n + 26 ≤ length (now line) ⌝ }
-    ensures { λ r. ⌜ r ≤ n + 26 ⌝ }
-{
-    let next = text::put(line, n, b" NONE");
-    put_count(line, next, number)
-}
-
-fn put_span(line: &mut [u8], n: usize, answer: SpanAnswer) -> usize
-    requires { ⌜ n + 31 ≤ length (now line) ⌝ }
-    ensures { λ r. ⌜ r ≤ n + 31 ⌝ }
-{
-    match answer {
-        SpanAnswer::Given(s) => put_range(line, n, s.low, s.high, s.count),
-        SpanAnswer::ImageEmpty => put_none(line, n, 1),
-        SpanAnswer::NoEntries => put_none(line, n, 2),
-        SpanAnswer::PastTop => put_none(line, n, 3),
-        SpanAnswer::Refused => put_none(line, n, 4),
-        SpanAnswer::Full => put_none(line, n, 7),
+    let next = report::put_span(out, n, call, answer);
+    if let SpanAnswer::Given(s) = answer {
+        return report::put_number(out, next, b"COUNT", s.count as u64);
     }
+    next
 }
 
-fn put_diag(line: &mut [u8], n: usize, answer: DiagAnswer) -> usize
-    requires { ⌜ n + 52 ≤ length (now line) ⌝ }
-    ensures { λ r. ⌜ r ≤ n + 52 ⌝ }
+// What `diagnose` answers, and its records.
+fn put_diagnosed(out: &mut [u8], n: usize, image: &[u8], load: u16, entries: &[u16]) -> usize
+    requires { ⌜ n + 412 ≤ length (now out) ⌝ }
+    ensures { λ r. ⌜ r ≤ n + 412 ⌝ }
 {
-    match answer {
-        DiagAnswer::Answered(s) => {
-            let next = put_range(line, n, s.low, s.high, s.count);
-            put_count(line, next, s.records as u64)
-        }
-        DiagAnswer::ImageEmpty => put_none(line, n, 1),
-        DiagAnswer::NoEntries => put_none(line, n, 2),
-        DiagAnswer::PastTop => put_none(line, n, 3),
-        DiagAnswer::Short(_) => put_none(line, n, 6),
-        DiagAnswer::Full => put_none(line, n, 7),
-    }
+    let mut slots = [0u64; 8];
+    let answer = diagnosis::diagnose(image, load, entries, &mut slots);
+    report::put_diag(out, n, answer, &slots)
 }
 
-fn put_stores(line: &mut [u8], n: usize, answer: StoresAnswer) -> usize
-    requires { ⌜ n + 26 ≤ length (now line) ⌝ }
-    ensures { λ r. ⌜ r ≤ n + 26 ⌝ }
+// What `write_extent` answers, and its records.
+fn put_stored(out: &mut [u8], n: usize, image: &[u8], load: u16, entries: &[u16]) -> usize
+    requires { ⌜ n + 196 ≤ length (now out) ⌝ }
+    ensures { λ r. ⌜ r ≤ n + 196 ⌝ }
 {
-    match answer {
-        StoresAnswer::Answered(records) => put_count(line, n, records as u64),
-        StoresAnswer::ImageEmpty => put_none(line, n, 1),
-        StoresAnswer::NoEntries => put_none(line, n, 2),
-        StoresAnswer::PastTop => put_none(line, n, 3),
-        StoresAnswer::Refused => put_none(line, n, 4),
-        StoresAnswer::Unbounded => put_none(line, n, 5),
-        StoresAnswer::Short(_) => put_none(line, n, 6),
-        StoresAnswer::Full => put_none(line, n, 7),
-    }
-}
-
-fn put_slug(line: &mut [u8], n: usize, cause: RefusalCause) -> usize
-    requires { ⌜ n + 16 ≤ length (now line) ⌝ }
-    ensures { λ r. ⌜ r ≤ n + 16 ⌝ }
-{
-    let next = text::put(line, n, b" ");
-    let slug = cause.slug();
-    let bytes = slug.bytes;
-    let len = slug.len;
-    text::put(line, next, &bytes[..len])
-}
-
-// A byte, if it is there.
-fn put_held(line: &mut [u8], n: usize, present: u8, value: u8) -> usize
-    requires { ⌜ n + 3 ≤ length (now line) ⌝ }
-    ensures { λ r. ⌜ r ≡ n + 3 ⌝ }
-{
-    if present == 1 {
-        put_hex(line, n, 2, value as u16)
-    } else {
-        text::put(line, n, b" --")
-    }
-}
-
-// The site of a refusal, and its cause.
-fn put_site(line: &mut [u8], record: u64) -> usize
-    requires { ⌜ 25 ≤ length (now line) ⌝ }
-    ensures { λ r. ⌜ r ≤ 25 ⌝ }
-{
-    let n = text::put(line, 0, b"R");
-    let after_address = put_hex(line, n, 4, records::address_of(record));
-    let after_opcode = put_hex(line, after_address, 2, records::opcode_of(record) as u16);
-    put_slug(
-        line,
-        after_opcode,
-        RefusalCause::from_number(records::cause_of(record)),
-    )
-}
-
-// What the diagnosis found out about it: its pointer, the two flags, its weight.
-fn put_found(line: &mut [u8], n: usize, record: u64) -> usize
-    requires { ⌜ n + 66 ≤ length (now line) ⌝ }
-    ensures { λ r. ⌜ r ≤ n + 66 ⌝ }
-{
-    let after_pointer = put_held(
-        line,
-        n,
-        records::present_of(record),
-        records::pointer_of(record),
-    );
-    let after_linear = put_count(line, after_pointer, records::linear_of(record) as u64);
-    let after_walk = put_count(line, after_linear, records::walk_of(record) as u64);
-    put_count(line, after_walk, records::weight_of(record) as u64)
-}
-
-// ── lines ──
-fn write_line(line: &mut [u8], n: usize)
-    requires { ⌜ n + 1 ≤ length (now line) ⌝ }
-{
-    let end = text::put(line, n, b"\n");
-    io::write_all(STDOUT_FILENO, &line[..end]);
-}
-
-fn span_line(name: &[u8], call: &[u8], answer: SpanAnswer)
-    requires { ⌜ (length (now name) ≤ 32) × (length (now call) ≤ 8) ⌝ }
-{
-    let mut line = [0u8; 128];
-    let n = put_heading(&mut line, name, call);
-    let end = put_span(&mut line, n, answer);
-    write_line(&mut line, end);
-}
-
-fn diag_line(name: &[u8], answer: DiagAnswer)
-    requires { ⌜ length (now name) ≤ 32 ⌝ }
-{
-    let mut line = [0u8; 128];
-    let n = put_heading(&mut line, name, b"DIAG");
-    let end = put_diag(&mut line, n, answer);
-    write_line(&mut line, end);
-}
-
-fn stores_line(name: &[u8], answer: StoresAnswer)
-    requires { ⌜ length (now name) ≤ 32 ⌝ }
-{
-    let mut line = [0u8; 128];
-    let n = put_heading(&mut line, name, b"STORES");
-    let end = put_stores(&mut line, n, answer);
-    write_line(&mut line, end);
+    let mut slots = [0u32; 8];
+    let answer = stores::write_extent(image, load, entries, &mut slots);
+    report::put_extent(out, n, answer, &slots)
 }
 
 // What the tracker knows of the zero-page byte `z`.
-fn tracked_line(name: &[u8], zp: &[u8; 256], marks: &[u8; 256], z: u8)
-    requires { ⌜ length (now name) ≤ 32 ⌝ }
+fn put_tracked(out: &mut [u8], n: usize, zp: &[u8; 256], marks: &[u8; 256], z: u8) -> usize
+    requires { ⌜ n + 9 ≤ length (now out) ⌝ }
+    ensures { λ r. ⌜ r ≤ n + 9 ⌝ }
 {
     let values = &zp[..];
     let known = &marks[..];
     let i = z as usize;
-    let mut line = [0u8; 128];
-    let n = put_heading(&mut line, name, b"ZP");
-    let next = put_hex(&mut line, n, 2, z as u16);
-    let end = put_held(&mut line, next, known[i], values[i]);
-    write_line(&mut line, end);
-}
-
-// A refusal's record.
-fn refusal_line(record: u64) {
-    let mut line = [0u8; 128];
-    let n = put_site(&mut line, record);
-    let end = put_found(&mut line, n, record);
-    write_line(&mut line, end);
-}
-
-// A store's record.
-fn store_line(record: u32) {
-    let mut line = [0u8; 128];
-    let n = text::put(&mut line, 0, b"W");
-    let n = put_hex(&mut line, n, 4, (record / 65536) as u16);
-    let n = put_hex(&mut line, n, 4, (record % 65536) as u16);
-    write_line(&mut line, n);
-}
-
-fn refusal_lines(records: &[u64], n: usize)
-    requires { ⌜ n ≤ length (now records) ⌝ }
-{
-    let mut i: usize = 0;
-    while i < n {
-        refusal_line(records[i]);
-        i += 1;
-    }
-}
-
-fn store_lines(records: &[u32], n: usize)
-    requires { ⌜ n ≤ length (now records) ⌝ }
-{
-    let mut i: usize = 0;
-    while i < n {
-        store_line(records[i]);
-        i += 1;
-    }
+    let to_byte = report::put_word(out, n, b"ZP", SPACE);
+    let to_value = report::put_hex(out, to_byte, 2, z as u16, SPACE);
+    report::put_held(out, to_value, known[i], values[i], LINE_END)
 }
 
 // ── cases ──
-// What `diagnose` answers, and its records.
-fn diagnosed(name: &[u8], image: &[u8], load: u16, entries: &[u16])
-    requires { ⌜ length (now name) ≤ 32 ⌝ }
-{
-    let mut slots = [0u64; 8];
-    let answer = diagnosis::diagnose(image, load, entries, &mut slots);
-    diag_line(name, answer);
-    if let DiagAnswer::Answered(s) = answer {
-        refusal_lines(&slots, s.records);
-    }
-}
-
-// What `write_extent` answers, and its records.
-fn stored(name: &[u8], image: &[u8], load: u16, entries: &[u16])
-    requires { ⌜ length (now name) ≤ 32 ⌝ }
-{
-    let mut slots = [0u32; 8];
-    let answer = stores::write_extent(image, load, entries, &mut slots);
-    stores_line(name, answer);
-    if let StoresAnswer::Answered(n) = answer {
-        store_lines(&slots, n);
-    }
-}
 
 // What the four calls answer.
 fn case(name: &[u8], image: &[u8], load: u16, entries: &[u16])
     requires { ⌜ length (now name) ≤ 32 ⌝ }
 {
-    span_line(name, b"SPAN", span::reachable_span(image, load, entries));
-    span_line(name, b"GUARDED", span::guarded_span(image, load, entries));
-    diagnosed(name, image, load, entries);
-    stored(name, image, load, entries);
+    let mut out = [0u8; 1024];
+    let plain = span::reachable_span(image, load, entries);
+    let guarded = span::guarded_span(image, load, entries);
+    let a = put_name(&mut out, name);
+    let b = put_counted(&mut out, a, b"SPAN", plain);
+    let c = put_counted(&mut out, b, b"GUARDED", guarded);
+    let d = put_diagnosed(&mut out, c, image, load, entries);
+    let end = put_stored(&mut out, d, image, load, entries);
+    io::write_all(STDOUT_FILENO, &out[..end]);
 }
 
 // A case at 01's load address and entry.
@@ -318,12 +120,14 @@ fn starred_cases() {
 
 // What the tracker knows after a run that hides a load behind the operand of a BIT.
 fn tracker_case() {
-    let name = b"85 FB 2C A9 01 85 10";
     let state = tracker::track_immediates(b"\x85\xFB\x2C\xA9\x01\x85\x10");
     let zp = state.zp;
     let marks = state.marks;
-    tracked_line(name, &zp, &marks, 0x10);
-    tracked_line(name, &zp, &marks, 0xFB);
+    let mut out = [0u8; 64];
+    let a = put_name(&mut out, b"85 FB 2C A9 01 85 10");
+    let b = put_tracked(&mut out, a, &zp, &marks, 0x10);
+    let end = put_tracked(&mut out, b, &zp, &marks, 0xFB);
+    io::write_all(STDOUT_FILENO, &out[..end]);
 }
 
 // As many instructions as a walk may meet.

@@ -51,7 +51,7 @@ pub fn word16(bytes: &[u8], i: usize) -> u16
 }
 
 // Four bytes from `i` on, the least significant first.
-fn word32(bytes: &[u8], i: usize) -> u32
+pub fn word32(bytes: &[u8], i: usize) -> u32
     requires { ⌜ i + 3 < length (now bytes) ⌝ }
     ensures { λ r. ⌜ r ≡ word32 (now (bytes .entry)) i ⌝ }
 {

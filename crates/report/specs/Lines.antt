@@ -34,9 +34,17 @@ word ␣ rest = word ++ 0x20 ∷ rest
 abbrev pub end : (word : List ℕ) → List ℕ
 end word = word ++ 0x0A ∷ []
 
+-- a line of a name and a number
+abbrev pub numberLine : (name : List ℕ) (n : ℕ) → List ℕ
+numberLine name n = name ␣ end (decimalOf n)
+
+-- a byte where the mark is 1, and `--` where it is not there
+abbrev pub heldWord : (mark value : ℕ) → List ℕ
+heldWord mark value = cond (eqb mark 1) (hexOf 2 value) (ascii "--")
+
 -- an answer that is a refusal: NONE and the number
 abbrev pub none : (name : List ℕ) (number : ℕ) → List ℕ
-none name number = name ␣ ascii "NONE" ␣ end (decimalOf number)
+none name number = name ␣ numberLine (ascii "NONE") number
 
 -- ── SPAN and GUARDED: low, high ──
 abbrev pub spanLine : (name : List ℕ) → SpanAnswer → List ℕ
@@ -50,7 +58,7 @@ spanLine name span.Full = none name (span-numbers.numberOf span.Full)
 -- ── DIAG: low, high, instructions, records; and R: address, opcode, slug, pointer or `--`, linear, walk, weight ──
 -- the pointer is shown where it is present
 abbrev pub pointerWord : (r : ℕ) → List ℕ
-pointerWord r = cond (eqb (presentOf r) 1) (hexOf 2 (pointerOf r)) (ascii "--")
+pointerWord r = heldWord (presentOf r) (pointerOf r)
 
 abbrev pub flagWords : (r : ℕ) → List ℕ
 flagWords r = hexOf 1 (linearOf r) ␣ hexOf 1 (walkOf r) ␣ end (decimalOf (weightOf r))
@@ -85,11 +93,8 @@ diagLines diagnosis.Full slots = none (ascii "DIAG") (diagnosis-numbers.numberOf
 abbrev pub storeLine : (r : ℕ) → List ℕ
 storeLine r = ascii "W" ␣ hexOf 4 (r / 65536) ␣ end (hexOf 4 (r % 65536))
 
-abbrev pub countLine : (n : ℕ) → List ℕ
-countLine n = ascii "STORES" ␣ end (decimalOf n)
-
 abbrev pub storesLines : StoresAnswer → (slots : List ℕ) → List ℕ
-storesLines (stores.Answered n) slots = countLine n ++ lines storeLine (take n slots)
+storesLines (stores.Answered n) slots = numberLine (ascii "STORES") n ++ lines storeLine (take n slots)
 storesLines stores.ImageEmpty slots = none (ascii "STORES") (stores-numbers.numberOf stores.ImageEmpty)
 storesLines stores.NoEntries slots = none (ascii "STORES") (stores-numbers.numberOf stores.NoEntries)
 storesLines stores.PastTop slots = none (ascii "STORES") (stores-numbers.numberOf stores.PastTop)
@@ -100,4 +105,4 @@ storesLines stores.Full slots = none (ascii "STORES") (stores-numbers.numberOf s
 
 -- ── JOB: a refused job's number, and nothing else ──
 abbrev pub jobLine : (number : ℕ) → List ℕ
-jobLine number = ascii "JOB" ␣ end (decimalOf number)
+jobLine number = numberLine (ascii "JOB") number

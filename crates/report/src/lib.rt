@@ -6,7 +6,7 @@ ghost use Prim.Native.Nat.{_≤_};
 ghost use lib.ListN.{length, take};
 ghost use Rattle.cause.specs.Cause.{slugOf};
 ghost use Rattle.text.specs.Text.{hexOf, decimalOf, Put};
-ghost use Rattle.report.specs.Lines.{Room, none, spanLine, pointerWord, flagWords, causeWords, recordLine, lines, countWords, summaryLine, diagLines, storeLine, countLine, storesLines, jobLine};
+ghost use Rattle.report.specs.Lines.{Room, none, numberLine, spanLine, heldWord, pointerWord, flagWords, causeWords, recordLine, lines, countWords, summaryLine, diagLines, storeLine, storesLines, jobLine};
 ghost use Rattle.report.specs.Report.{Enough, EnoughStores, TellsIn, TellsAll, Delivers, Reports};
 use cause::RefusalCause;
 use diagnosis::DiagAnswer;
@@ -21,9 +21,10 @@ pub enum ReportAnswer {
     Short(usize),
 }
 
-const SPACE: u8 = 0x20;
+// What follows a word: a space, or the end of its line.
+pub const SPACE: u8 = 0x20;
 
-const LINE_END: u8 = 0x0A;
+pub const LINE_END: u8 = 0x0A;
 
 // ── words ──
 
@@ -35,8 +36,8 @@ fn put_byte(out: &mut [u8], n: usize, byte: u8) -> usize
     n + 1
 }
 
-// A word, and the byte after it: a space, or the line's end.
-fn put_word(out: &mut [u8], n: usize, word: &[u8], after: u8) -> usize
+// A word, and the byte after it.
+pub fn put_word(out: &mut [u8], n: usize, word: &[u8], after: u8) -> usize
     requires { ⌜ Room (now out) n (now word ++ after ∷ []) ⌝ }
     ensures { λ r. ⌜ Put (now (out .entry)) n (now (word .entry) ++ after ∷ []) r (now (out .exit)) ⌝ }
 {
@@ -44,7 +45,7 @@ fn put_word(out: &mut [u8], n: usize, word: &[u8], after: u8) -> usize
     put_byte(out, m, after)
 }
 
-fn put_hex(out: &mut [u8], n: usize, width: usize, value: u16, after: u8) -> usize
+pub fn put_hex(out: &mut [u8], n: usize, width: usize, value: u16, after: u8) -> usize
     requires { ⌜ Room (now out) n (hexOf width value ++ after ∷ []) ⌝ }
     ensures { λ r. ⌜ Put (now (out .entry)) n (hexOf width value ++ after ∷ []) r (now (out .exit)) ⌝ }
 {
@@ -52,7 +53,7 @@ fn put_hex(out: &mut [u8], n: usize, width: usize, value: u16, after: u8) -> usi
     put_byte(out, m, after)
 }
 
-fn put_decimal(out: &mut [u8], n: usize, value: u64, after: u8) -> usize
+pub fn put_decimal(out: &mut [u8], n: usize, value: u64, after: u8) -> usize
     requires { ⌜ Room (now out) n (decimalOf value ++ after ∷ []) ⌝ }
     ensures { λ r. ⌜ Put (now (out .entry)) n (decimalOf value ++ after ∷ []) r (now (out .exit)) ⌝ }
 {
@@ -60,19 +61,38 @@ fn put_decimal(out: &mut [u8], n: usize, value: u64, after: u8) -> usize
     put_byte(out, m, after)
 }
 
+// A byte where the mark is 1, and `--` where it is not there.
+pub fn put_held(out: &mut [u8], n: usize, mark: u8, value: u8, after: u8) -> usize
+    requires { ⌜ Room (now out) n (heldWord mark value ++ after ∷ []) ⌝ }
+    ensures { λ r. ⌜ Put (now (out .entry)) n (heldWord mark value ++ after ∷ []) r (now (out .exit)) ⌝ }
+{
+    if mark == 1 {
+        return put_hex(out, n, 2, value as u16, after);
+    }
+    put_word(out, n, b"--", after)
+}
+
+// A line of a name and a number.
+pub fn put_number(out: &mut [u8], n: usize, name: &[u8], value: u64) -> usize
+    requires { ⌜ Room (now out) n (numberLine (now name) value) ⌝ }
+    ensures { λ r. ⌜ Put (now (out .entry)) n (numberLine (now (name .entry)) value) r (now (out .exit)) ⌝ }
+{
+    let a = put_word(out, n, name, SPACE);
+    put_decimal(out, a, value, LINE_END)
+}
+
 // ── SPAN, GUARDED ──
 
 // NONE and the number of a refusal.
-fn put_none(out: &mut [u8], n: usize, name: &[u8], number: u8) -> usize
+pub fn put_none(out: &mut [u8], n: usize, name: &[u8], number: u8) -> usize
     requires { ⌜ Room (now out) n (none (now name) number) ⌝ }
     ensures { λ r. ⌜ Put (now (out .entry)) n (none (now (name .entry)) number) r (now (out .exit)) ⌝ }
 {
     let a = put_word(out, n, name, SPACE);
-    let b = put_word(out, a, b"NONE", SPACE);
-    put_decimal(out, b, number as u64, LINE_END)
+    put_number(out, a, b"NONE", number as u64)
 }
 
-fn put_span(out: &mut [u8], n: usize, name: &[u8], answer: SpanAnswer) -> usize
+pub fn put_span(out: &mut [u8], n: usize, name: &[u8], answer: SpanAnswer) -> usize
     requires { ⌜ Room (now out) n (spanLine (now name) answer) ⌝ }
     ensures { λ r. ⌜ Put (now (out .entry)) n (spanLine (now (name .entry)) answer) r (now (out .exit)) ⌝ }
 {
@@ -106,10 +126,13 @@ fn put_pointer(out: &mut [u8], n: usize, r: u64) -> usize
     requires { ⌜ Room (now out) n (pointerWord r ++ 0x20 ∷ []) ⌝ }
     ensures { λ m. ⌜ Put (now (out .entry)) n (pointerWord r ++ 0x20 ∷ []) m (now (out .exit)) ⌝ }
 {
-    if records::present_of(r) == 1 {
-        return put_hex(out, n, 2, records::pointer_of(r) as u16, SPACE);
-    }
-    put_word(out, n, b"--", SPACE)
+    put_held(
+        out,
+        n,
+        records::present_of(r),
+        records::pointer_of(r),
+        SPACE,
+    )
 }
 
 // Both flags and the weight, to the line's end.
@@ -180,7 +203,7 @@ fn put_summary(out: &mut [u8], n: usize, s: Summary) -> usize
     put_counts(out, c, s)
 }
 
-fn put_diag(out: &mut [u8], n: usize, answer: DiagAnswer, slots: &[u64]) -> usize
+pub fn put_diag(out: &mut [u8], n: usize, answer: DiagAnswer, slots: &[u64]) -> usize
     requires { ⌜ Room (now out) n (diagLines answer (now slots)) × Enough answer (now slots) ⌝ }
     ensures { λ r. ⌜ Put (now (out .entry)) n (diagLines answer (now (slots .entry))) r (now (out .exit)) ⌝ }
 {
@@ -222,21 +245,13 @@ fn put_stores(out: &mut [u8], n: usize, records: &[u32]) -> usize
     at
 }
 
-fn put_count(out: &mut [u8], n: usize, count: usize) -> usize
-    requires { ⌜ Room (now out) n (countLine count) ⌝ }
-    ensures { λ r. ⌜ Put (now (out .entry)) n (countLine count) r (now (out .exit)) ⌝ }
-{
-    let a = put_word(out, n, b"STORES", SPACE);
-    put_decimal(out, a, count as u64, LINE_END)
-}
-
-fn put_extent(out: &mut [u8], n: usize, answer: StoresAnswer, slots: &[u32]) -> usize
+pub fn put_extent(out: &mut [u8], n: usize, answer: StoresAnswer, slots: &[u32]) -> usize
     requires { ⌜ Room (now out) n (storesLines answer (now slots)) × EnoughStores answer (now slots) ⌝ }
     ensures { λ r. ⌜ Put (now (out .entry)) n (storesLines answer (now (slots .entry))) r (now (out .exit)) ⌝ }
 {
     match answer {
         StoresAnswer::Answered(count) => {
-            let a = put_count(out, n, count);
+            let a = put_number(out, n, b"STORES", count as u64);
             put_stores(out, a, &slots[..count])
         }
         StoresAnswer::ImageEmpty => put_none(out, n, b"STORES", 1),
@@ -268,9 +283,8 @@ fn refuse(number: u8, out: &mut [u8]) -> ReportAnswer
     ensures { λ r. ⌜ Delivers (jobLine number) (now (out .entry)) (now (out .exit)) r ⌝ }
 {
     let mut line = [0u8; 32];
-    let a = put_word(&mut line, 0, b"JOB", SPACE);
-    let b = put_decimal(&mut line, a, number as u64, LINE_END);
-    deliver(&line, b, out)
+    let n = put_number(&mut line, 0, b"JOB", number as u64);
+    deliver(&line, n, out)
 }
 
 // The four answers to a job, one after the other.

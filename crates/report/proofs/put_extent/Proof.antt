@@ -3,7 +3,8 @@ use mathlib.Core.Path.{sym}
 use lib.Seq.{length-take-le}
 use lib.ListN.{take}
 use borrow.Author.Needs.{needs}
-use Rattle.report.specs.Lines.{storeLine, lines, countLine}
+use Rattle.lists.specs.Text.{ascii}
+use Rattle.report.specs.Lines.{storeLine, lines, numberLine}
 use Rattle.report.proofs.Joining.{put-both, room-first, room-second}
 use Rattle.report.proofs.put_extent.Statement.{statement}
 use Rattle.report.proofs.put_extent.Tie as tie
@@ -11,23 +12,26 @@ use Rattle.report.proofs.put_extent.Tie as tie
 enum-known-answer : tie.Need-enum-known-answer
 enum-known-answer c = search needs
 
-put-count-requires : tie.Need-put-count-requires
-put-count-requires c κs =
-    let answered = c .before .before in
+slice-aggregate-put-number : tie.Need-slice-aggregate-put-number
+slice-aggregate-put-number c = search needs
+
+put-number-requires : tie.Need-put-number-requires
+put-number-requires c κs =
+    let answered = c .before .before .before in
     let start = answered .before .before .before .before in
-    room-first (countLine (answered .answer .given .0 .0)) (lines storeLine (take (answered .answer .given .0 .0) (start .args .slots .now))) (rw (answered .answer .given .1) at (start .pre .0))
+    room-first (numberLine (ascii "STORES") (answered .answer .given .0 .0)) (lines storeLine (take (answered .answer .given .0 .0) (start .args .slots .now))) (rw (answered .answer .given .1) at (start .pre .0))
 
 slice-aggregate-put-stores : tie.Need-slice-aggregate-put-stores
 slice-aggregate-put-stores c =
-    let answered = c .before .before .before .before .before .before .before in
+    let answered = c .before .before .before .before .before .before .before .before in
     sym (length-take-le _ _ (rw (answered .answer .given .1) at (answered .before .before .before .before .pre .1)))
 
 put-stores-requires : tie.Need-put-stores-requires
 put-stores-requires c κs =
     let head = c .before .before .before .before in
-    let answered = head .before .before .before in
+    let answered = head .before .before .before .before in
     let start = answered .before .before .before .before in
-    room-second (countLine (answered .answer .given .0 .0)) (lines storeLine (take (answered .answer .given .0 .0) (start .args .slots .now))) (rw (answered .answer .given .1) at (start .pre .0)) (head .put-count .ensures)
+    room-second (numberLine (ascii "STORES") (answered .answer .given .0 .0)) (lines storeLine (take (answered .answer .given .0 .0) (start .args .slots .now))) (rw (answered .answer .given .1) at (start .pre .0)) (head .put-number .ensures)
 
 enum-told : tie.Need-enum-told
 enum-told c = search needs
@@ -99,9 +103,9 @@ returns : tie.Need-returns
 returns c =
     let rest = c .before .before in
     let head = rest .before .before .before .before .before in
-    let answered = head .before .before .before in
+    let answered = head .before .before .before .before in
     let start = answered .before .before .before .before in
-    rw (answered .answer .given .1) (put-both (room-first (countLine (answered .answer .given .0 .0)) (lines storeLine (take (answered .answer .given .0 .0) (start .args .slots .now))) (rw (answered .answer .given .1) at (start .pre .0))) (head .put-count .ensures) (lines storeLine (take (answered .answer .given .0 .0) (start .args .slots .now))) (rest .put-stores .ensures))
+    rw (answered .answer .given .1) (put-both (room-first (numberLine (ascii "STORES") (answered .answer .given .0 .0)) (lines storeLine (take (answered .answer .given .0 .0) (start .args .slots .now))) (rw (answered .answer .given .1) at (start .pre .0))) (head .put-number .ensures) (lines storeLine (take (answered .answer .given .0 .0) (start .args .slots .now))) (rest .put-stores .ensures))
 
 same-length-2 : tie.Need-same-length-2
 same-length-2 c = search needs
@@ -164,7 +168,8 @@ put-extent-spec =
     tie.close
     (tie.spec
     enum-known-answer
-    put-count-requires
+    slice-aggregate-put-number
+    put-number-requires
     slice-aggregate-put-stores
     put-stores-requires
     enum-told

@@ -1,6 +1,5 @@
--- `report::put_none` meets its contract: its three words are put one after the other.
+-- `report::put_none` meets its contract: the name is put, and then the rest of its line.
 use borrow.Author.Needs.{needs}
-use Rattle.lists.specs.Text.{ascii}
 use Rattle.report.proofs.Joining.{word-room, rest-room, put-word}
 use Rattle.report.proofs.put_none.Statement.{statement}
 use Rattle.report.proofs.put_none.Tie as tie
@@ -10,42 +9,31 @@ put-word-requires c κs =
     let start = c .before .before .before in
     word-room (start .args .name .now) 0x20 _ (start .pre)
 
-slice-aggregate-put-word : tie.Need-slice-aggregate-put-word
-slice-aggregate-put-word c = search needs
+slice-aggregate-put-number : tie.Need-slice-aggregate-put-number
+slice-aggregate-put-number c = search needs
 
-put-word-requires-2 : tie.Need-put-word-requires-2
-put-word-requires-2 c κs =
+put-number-requires : tie.Need-put-number-requires
+put-number-requires c κs =
     let first = c .before .before .before .before in
     let start = first .before .before .before .before in
-    word-room (ascii "NONE") 0x20 _ (rest-room (start .args .name .now) 0x20 _ (start .pre) (first .put-word .ensures))
-
-put-decimal-requires : tie.Need-put-decimal-requires
-put-decimal-requires c κs =
-    let second = c .before .before .before in
-    let first = second .before .before .before .before .before in
-    let start = first .before .before .before .before in
-    let left = rest-room (start .args .name .now) 0x20 _ (start .pre) (first .put-word .ensures) in
-    rest-room (ascii "NONE") 0x20 _ left (second .put-word2 .ensures)
+    rest-room (start .args .name .now) 0x20 _ (start .pre) (first .put-word .ensures)
 
 same-length : tie.Need-same-length
 same-length c = search needs
 
 returns : tie.Need-returns
 returns c =
-    let third = c .before .before in
-    let second = third .before .before .before .before in
+    let second = c .before .before in
     let first = second .before .before .before .before .before in
     let start = first .before .before .before .before in
-    let left = rest-room (start .args .name .now) 0x20 _ (start .pre) (first .put-word .ensures) in
-    put-word (start .args .name .now) 0x20 _ (start .pre) (first .put-word .ensures) (put-word (ascii "NONE") 0x20 _ left (second .put-word2 .ensures) (third .put-decimal .ensures))
+    put-word (start .args .name .now) 0x20 _ (start .pre) (first .put-word .ensures) (second .put-number .ensures)
 
 pub put-none-spec : {M : Type 1} → statement M
 put-none-spec =
     tie.close
     (tie.spec
     put-word-requires
-    slice-aggregate-put-word
-    put-word-requires-2
-    put-decimal-requires
+    slice-aggregate-put-number
+    put-number-requires
     same-length
     returns)
