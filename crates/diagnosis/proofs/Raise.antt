@@ -4,6 +4,7 @@ use mathlib.Core.Path.{_≡_, refl, sym, ap, ap₂, _∙_}
 use mathlib.Core.Bool.{Bool, true, false, cond}
 use mathlib.Core.List.{List, [], _∷_, _++_, map, map-append, List·Memᴰ·head as here, List·Memᴰ·tail as there}
 use Prim.Native.Nat.{ℕ, suc, _-_, _%_, _<_}
+use native.Mathlib.Nat.{min-le-right}
 use native.Mathlib.Omega.{arith}
 use lib.ListN.{length, take, drop, length-map}
 use lib.Seq.{take-at, drop-at}
@@ -29,22 +30,24 @@ below : (b : Bool) (x y n : ℕ) → x < n → y < n → cond b x y < n
 below true x y n p q = p
 below false x y n p q = q
 
-module _ (class : ℕ → Decoded) (image : List ℕ) (load last : ℕ) (order : List ℕ) (bytes : (a : ℕ) → byteAt image load a < 256) (weight : ℕ → ℕ) where
-  unweighed : (p : Pair) → p .address < 65536 → Sized (fieldsOf class image load last order (λ a. 0) p)
-  unweighed p h =
+module _ (class : ℕ → Decoded) (image : List ℕ) (load last : ℕ) (order : List ℕ) (bytes : (a : ℕ) → byteAt image load a < 256) where
+  -- what is recorded fits its place in a record, whatever the weight
+  pub recorded-sized : (weight : ℕ → ℕ) (p : Pair) → p .address < 65536 → Sized (fieldsOf class image load last order weight p)
+  recorded-sized weight p h =
       record {
         address = omega arith;
         opcode = below (inside load last (p .address)) (byteAt image load (p .address)) 0 256 (bytes (p .address)) (omega arith);
         pointer = below (isPointer (p .cause)) (siteIn class image load last (p .address) .operand % 256) 0 256 (omega arith) (omega arith);
-        weight = omega arith;
+        weight = omega (arith, min-le-right (weight (p .address)) 65535);
       }
 
+module _ (class : ℕ → Decoded) (image : List ℕ) (load last : ℕ) (order : List ℕ) (bytes : (a : ℕ) → byteAt image load a < 256) (weight : ℕ → ℕ) where
   raise-one : (p : Pair) → p .address < 65536
       → raised (weight (addressOf (recordOf class image load last order (λ a. 0) p))) (recordOf class image load last order (λ a. 0) p)
       ≡ recordOf class image load last order weight p
   unfolding packed
   raise-one p h =
-      let u = unpacks (fieldsOf class image load last order (λ a. 0) p) (unweighed p h) in
+      let u = unpacks (fieldsOf class image load last order (λ a. 0) p) (recorded-sized class image load last order bytes (λ a. 0) p h) in
       rw (u .address) (omega (arith, u .weight))
 
   raise-at : (a : ℕ) → a < 65536 → (causes : List RefusalCause)

@@ -1,22 +1,20 @@
 -- A packed record, unpacked, has its fields again, one for one: each reads back, and a cause is found by its number. The records of the diagnosis are such records:
 -- their numbers fit their fields.
 use mathlib.Core.Path.{_≡_, refl, ap, _∙_}
-use mathlib.Core.Bool.{Bool, true, false, cond}
+use mathlib.Core.Bool.{Bool, true, false}
 use mathlib.Core.List.{List}
 use Prim.Native.Nat.{ℕ, _<_}
-use native.Mathlib.Nat.{min-le-right}
-use native.Mathlib.Omega.{arith}
 use lib.Dec.{eqb}
 use Rattle.mos6502.specs.declared.Decoded.{Decoded}
-use Rattle.image.specs.Image.{inside, byteAt}
+use Rattle.image.specs.Image.{byteAt}
 use Rattle.cause.specs.Cause.{causeAt}
 use Rattle.cause.proofs.Numbers.{cause-back}
 use Rattle.records.specs.declared.Fields.{Fields}
 use Rattle.records.specs.Packed.{flag, packed}
 use Rattle.records.proofs.Unpacked.{Sized, unpacks}
-use Rattle.walk.specs.Step.{isPointer}
 use Rattle.recorder.specs.declared.Pair.{Pair}
 use Rattle.recorder.specs.Records.{fieldsOf, recordOf}
+use Rattle.diagnosis.proofs.Raise.{recorded-sized}
 use Rattle.refusals.specs.Refusals.{refusalOf, structOf}
 
 reads : (b : Bool) → eqb (flag b) 1 ≡ b
@@ -42,20 +40,7 @@ module _ (f : Fields) (sized : Sized f) where
       }
 
 -- ── the records of the diagnosis ──
-below : (b : Bool) {x y n : ℕ} → x < n → y < n → cond b x y < n
-below true p q = p
-below false p q = q
-
 module _ (class : ℕ → Decoded) (image : List ℕ) (load last : ℕ) (order : List ℕ) (bytes : (a : ℕ) → byteAt image load a < 256) (weight : ℕ → ℕ)
     (p : Pair) (small : p .address < 65536) where
-  fits : Sized (fieldsOf class image load last order weight p)
-  fits =
-      record {
-        address = omega arith;
-        opcode = below (inside load last (p .address)) (bytes (p .address)) (omega arith);
-        pointer = below (isPointer (p .cause)) (omega arith) (omega arith);
-        weight = omega (arith, min-le-right (weight (p .address)) 65535);
-      }
-
   pub unpacks-recorded : refusalOf (recordOf class image load last order weight p) ≡ structOf (fieldsOf class image load last order weight p)
-  unpacks-recorded = unpacks-fields (fieldsOf class image load last order weight p) fits
+  unpacks-recorded = unpacks-fields (fieldsOf class image load last order weight p) (recorded-sized class image load last order bytes weight p small)

@@ -1,6 +1,5 @@
 //! The report: what span, guarded span, diagnosis and stores answer to a job, as text in a lent buffer.
 
-ghost use mathlib.Core.Path.{_≡_};
 ghost use mathlib.Core.List.{[], _∷_, _++_};
 ghost use Prim.Native.Nat.{_≤_};
 ghost use lib.ListN.{length, take};

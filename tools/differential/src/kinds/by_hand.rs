@@ -7,6 +7,7 @@ pub fn by_hand() -> Vec<Input> {
     list.extend(order_cases());
     list.extend(run_cases());
     list.extend(cut_pair_cases());
+    list.extend(off_end_cases());
     list
 }
 
@@ -65,6 +66,16 @@ fn cut_pair_cases() -> Vec<Input> {
     let site = |store: u8, opcode: u8, pointer: u8| [0xA9, 0x01, 0x85, 0x90, 0xA2, 0x02, 0x4C, 0x0A, 0xC0, store, opcode, pointer, 0x60];
     let all = [(0x85, 0x91, 0x90), (0x86, 0x91, 0x90), (0x84, 0x91, 0x90), (0x85, 0x91, 0x91), (0xEA, 0x91, 0x90)];
     all.map(|(store, opcode, pointer)| Input::new(0xC000, &[0xC000], &site(store, opcode, pointer))).to_vec()
+}
+
+/// A call, a jump and a branch on the last bytes, with their targets inside: the call runs off the end and its target is walked all the same; the branch's is not.
+fn off_end_cases() -> Vec<Input> {
+    vec![
+        Input::new(0xC000, &[0xC001], &[0x00, 0x20, 0x00, 0xC0]),
+        Input::new(0xC000, &[0xC001], &[0x00, 0x4C, 0x00, 0xC0]),
+        Input::new(0xC000, &[0xC001], &[0x00, 0xD0, 0xFD]),
+        Input::new(0xFFFD, &[0xFFFD], &[0x20, 0xFE, 0xFF]),
+    ]
 }
 
 fn at_c000() -> [&'static [u8]; 19] {
