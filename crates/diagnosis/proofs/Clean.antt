@@ -11,6 +11,7 @@ use lib.Dec.{T, eqb, eqb-refl}
 use lib.ListN.{length, length-append, length-map}
 use Rattle.lists.specs.Lists.{_∈_}
 use Rattle.lists.proofs.Tests.{pass, passed, clash, either}
+use Rattle.lists.proofs.Sets.{empty}
 use Rattle.mos6502.specs.declared.Decoded.{Decoded}
 use Rattle.image.specs.declared.Address.{Address}
 use Rattle.image.specs.Image.{last, inside}
@@ -39,10 +40,6 @@ use Rattle.diagnosis.specs.declared.DiagAnswer.the-variants.{Answered, I
 use Rattle.diagnosis.specs.Answers.{numberOf, valuesOf, Finds, Answers}
 
 -- ── where nothing is recorded ──
-empty : {A : Type 0} (l : List A) → length l ≡ 0 → l ≡ []
-empty [] e = refl
-empty (x ∷ l) e = absurd (omega arith)
-
 listed-clear : (c : Causes) → listOf c ≡ [] → isClear c ≡ true
 listed-clear Clear e = refl
 listed-clear (One c) e = absurd (omega (arith, ap length e))

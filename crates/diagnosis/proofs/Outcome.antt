@@ -1,54 +1,38 @@
 -- Each way out of `diagnose` past the first tests is one of the answers.
 use mathlib.Core.Path.{_≡_, refl, sym, ap, _∙_}
 use mathlib.Core.Bool.{true, false, true≢false, false≢true}
-use mathlib.Core.List.{List, [], _∷_, _++_}
+use mathlib.Core.List.{List, _++_}
 use Prim.Native.Nat.{ℕ, suc, _-_, _≤_, _<_}
 use native.Mathlib.Omega.{arith}
 use lib.ListN.{length, drop, length-map}
 use Rattle.lists.specs.Lists.{_∈_, scan}
-use Rattle.lists.proofs.Tests.{either}
-use mathlib.Core.Logic.{_⊎_, inl, inr}
-use Rattle.mos6502.specs.declared.Decoded.{Decoded}
 use Rattle.mos6502.specs.Class.{manualClass}
 use Rattle.image.specs.declared.Bounds.{Bounds}
 use Rattle.image.specs.declared.Address.{Address}
-use Rattle.image.specs.Image.{last, inside}
+use Rattle.image.specs.Image.{last}
 use Rattle.address_set.specs.Map.{has, members}
 use Rattle.opening.specs.declared.Opening.the-variants as opening
 use Rattle.opening.proofs.First.{Opens, ready}
 use Rattle.site.specs.declared.Reading.the-variants.{Plain}
 use Rattle.site.specs.Site.{siteIn}
 use Rattle.reach.specs.Walk as machine
-use Rattle.reach.proofs.Ends.{ends-always}
 use Rattle.walk.specs.declared.End.{End}
 use Rattle.walk.specs.declared.End.the-variants.{Finished, Refused, Spent, Full}
 use Rattle.walk.specs.declared.Rule.the-variants.{Diagnosis}
-use Rattle.walk.specs.Walked.{limit, stepIn, asEnd, Walk, Walked}
+use Rattle.walk.specs.Walked.{asEnd, Walked}
 use Rattle.walk.proofs.Members.{met-scan, met-count}
 use Rattle.extent.specs.declared.Extent.{Extent}
 use Rattle.extent.specs.Extent.{extentOf}
 use Rattle.recorder.specs.declared.Pair.{Pair}
 use Rattle.recorder.specs.Recorded.{undecodedOf, pairsOver}
 use Rattle.recorder.specs.Records.{recordOf, recordsOf}
-use Rattle.weights.specs.Weights.{recordsAlone, Weighs, none, counts, passes}
+use Rattle.weights.specs.Weights.{Weighs}
+use Rattle.weights.proofs.Weighed.{weighed}
 use Rattle.diagnosis.specs.declared.DiagAnswer.the-variants as answer
 use Rattle.diagnosis.specs.Steps.{isFull, Added, Fills}
 use Rattle.diagnosis.specs.Answers.{Answers}
 use Rattle.diagnosis.proofs.Found.{found}
 use Rattle.diagnosis.proofs.Measured.{measured}
-
--- every address has a weight, since every walk ends
-weighed : (class : ℕ → Decoded) (image : List ℕ) (load last : ℕ) (entries : List ℕ) (a : ℕ) → (n : ℕ) × Weighs class image load last a entries n
-weighed class image load last [] a = (0, none)
-weighed class image load last (entry ∷ entries) a =
-    let d = ends-always (stepIn class Diagnosis image load last) (inside load last) limit limit (entry ∷ []) in
-    by (d .2) (weighed class image load last entries a) (either (recordsAlone class image load last entry (d .0) (d .1) a))
-  where
-    by : {e : machine.End} {met : List ℕ} → Walk class Diagnosis image load last (entry ∷ []) e met → (n : ℕ) × Weighs class image load last a entries n
-        → (recordsAlone class image load last entry e met a ≡ true) ⊎ (recordsAlone class image load last entry e met a ≡ false)
-        → (n : ℕ) × Weighs class image load last a (entry ∷ entries) n
-    by w r (inl q) = (suc (r .0), counts w q (r .1))
-    by w r (inr q) = (r .0, passes w q (r .1))
 
 -- a record for each pair
 one-each : (image : List ℕ) (load last : ℕ) (order : List ℕ) (weight : ℕ → ℕ) (pairs : List Pair)

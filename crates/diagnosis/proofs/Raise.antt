@@ -9,6 +9,7 @@ use native.Mathlib.Omega.{arith}
 use lib.ListN.{length, take, drop, length-map}
 use lib.Seq.{take-at, drop-at}
 use Rattle.lists.specs.Lists.{_∈_, scan}
+use Rattle.lists.proofs.Sets.{empty}
 use Rattle.lists.proofs.Scan.{scan-only}
 use Rattle.mos6502.specs.declared.Decoded.{Decoded}
 use Rattle.mos6502.specs.Class.{manualClass}
@@ -24,6 +25,7 @@ use Rattle.recorder.specs.declared.Pair.{Pair}
 use Rattle.recorder.specs.Recorded.{causesAt, pairsAt, pairsOver}
 use Rattle.recorder.specs.Records.{fieldsOf, recordOf, recordsOf, Written}
 use Rattle.weights.specs.Weights.{raised, raisedBy, Filled}
+use Rattle.weights.proofs.Weighed.{weighed}
 use Rattle.diagnosis.specs.Steps.{Fills}
 
 below : (b : Bool) (x y n : ℕ) → x < n → y < n → cond b x y < n
@@ -102,3 +104,12 @@ module _ (image : List ℕ) (load last : ℕ) (entries members : List ℕ) (unde
       raised-found =
           raise-records manualClass image load last (scan (has members) load (suc last - load)) bytes (f .weight) undecoded (scan (has members) 0 65536)
           (λ a k. omega (arith, scan-only (has members) 0 65536 k .high))
+
+  -- nothing is found, and nothing written
+  pub fills-none : {slots : List ℕ} → length found ≡ 0 → Fills image load last entries members undecoded slots slots
+  fills-none e =
+      record {
+        weight = λ a. weighed manualClass image load last entries a .0;
+        weighs = λ a. weighed manualClass image load last entries a .1;
+        exact = rw (empty found e);
+      }

@@ -47,6 +47,11 @@ pub some-mem : (l : List ℕ) → 0 < length l → (a : ℕ) × (a ∈ l)
 some-mem [] h = absurd (omega arith)
 some-mem (x ∷ xs) h = (x, here refl)
 
+-- and one of length 0 is empty
+pub empty : {A : Type 0} (l : List A) → length l ≡ 0 → l ≡ []
+empty [] e = refl
+empty (x ∷ l) e = absurd (omega arith)
+
 -- what holds at every place of a list holds of its elements
 pub all-below : (l : List ℕ) (n : ℕ) → ((i : ℕ) → getD l i 0 < n) → (a : ℕ) → a ∈ l → a < n
 all-below [] n h a k = absurd (not-nil k)

@@ -3,3 +3,4 @@ pub mod Raising
 pub mod Concerned
 pub mod Counting
 pub mod Unique
+pub mod Weighed
