@@ -95,7 +95,7 @@ pub fn diagnose(image: &[u8], load: u16, entries: &[u16], slots: &mut [u64]) -> 
             }
             let undecoded = recorder::undecoded_of(end);
             let range = extent::extent_of(image, bounds, entries, &map, undecoded, Reading::Plain);
-            let count = address_set::size(&map);
+            let count = address_set::size(&map, bounds.load, bounds.last);
             add_outside(entries, bounds, &mut map);
             let n = recorder::count_pairs(image, bounds, &map, undecoded);
             if slots.len() < n {
