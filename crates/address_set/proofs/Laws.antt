@@ -11,8 +11,9 @@ use lib.Dec.{T, eqb}
 use lib.ListN.{length, getD, replicate}
 use Rattle.lists.specs.Lists.{_∈_, Ascending, scan}
 use Rattle.lists.proofs.Scan.{Scanned, scan-only, scan-all, scan-ascending, scan-length, scan-same, scan-none, scan-more, scan-next, scan-within}
+use Rattle.lists.proofs.Tests.{fail, pass, clash}
 use Rattle.lists.proofs.Zeros.{zeros-at}
-use Rattle.address_set.specs.Map.{bit, has, members, Inserted}
+use Rattle.address_set.specs.Map.{bit, has, members, Inserted, Within}
 use Rattle.address_set.specs.Next.{Free, Least, Next}
 use Rattle.address_set.specs.declared.Found.{Found}
 use Rattle.address_set.specs.declared.Found.the-variants.{At, Nothing}
@@ -96,9 +97,11 @@ module _ (m : List ℕ) (from last : ℕ) {found : Found} (next : Next m from la
       let free : Free m from (suc last) = rw e at next in
       scan-none (has m) from (suc last - from) (λ b p q. free b p (omega arith))
 
-pub members-within : (m : List ℕ) (load last : ℕ) → load ≤ last → last < 65536 → ((b : ℕ) → b ∈ members m → (load ≤ b) × (b ≤ last))
-    → members m ≡ scan (has m) load (suc last - load)
-unfolding members
-members-within m load last p q all =
-    scan-within (has m) 0 load (suc last) 65536 (omega arith) (omega arith) (omega arith)
-    (λ b x y t. omega (arith, all b (members-mem m b .1 (omega arith, t))))
+-- where all members lie in a range, a loop from its first address on, whose searches stop at its last, meets them all
+module _ {m : List ℕ} {first last : ℕ} (within : Within first last m) where
+  pub members-from : first ≤ 65536 → scan (has m) 0 65536 ≡ scan (has m) first (65536 - first)
+  members-from h = scan-within (has m) 0 first 65536 65536 (omega arith) h (omega arith) (λ b x y t. (within .each b t .0, omega arith))
+
+  pub next-within : (from end : ℕ) → last ≤ end → (found : Found) → Next m from last found → Next m from end found
+  next-within from end h (At b) l = record { low = l .low; high = omega arith; member = l .member; free = l .free }
+  next-within from end h Nothing free = λ k p q. fail (has m k) (λ t. clash (pass (has m k) t) (free k p (omega (arith, within .each k t))))

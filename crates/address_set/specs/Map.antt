@@ -3,8 +3,8 @@
 use mathlib.Core.Path.{_≡_}
 use mathlib.Core.Bool.{Bool, true, not}
 use mathlib.Core.List.{List}
-use Prim.Native.Nat.{ℕ, _/_, _%_, _^_}
-use lib.Dec.{eqb}
+use Prim.Native.Nat.{ℕ, _/_, _%_, _^_, _≤_}
+use lib.Dec.{T, eqb}
 use lib.ListN.{length, getD}
 use Rattle.lists.specs.Lists.{scan}
 
@@ -19,6 +19,10 @@ has map a = eqb (bit (getD map (a / 8) 0) (a % 8)) 1
 -- the members, ascending
 unfoldable pub members : (map : List ℕ) → List ℕ
 members map = scan (has map) 0 65536
+
+-- every member lies from first to last
+pub record Within (first last : ℕ) (map : List ℕ) : Type 0 where
+  pub each : (a : ℕ) → T (has map a) → (first ≤ a) × (a ≤ last)
 
 -- `after` is `map` with the member a and no other change, and `new` says whether a was no member before
 pub record Inserted (map : List ℕ) (a : ℕ) (after : List ℕ) (new : Bool) : Type 0 where

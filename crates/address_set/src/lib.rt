@@ -4,7 +4,7 @@
 ghost use mathlib.Core.Path.{_≡_};
 ghost use Prim.Native.Nat.{_<_};
 ghost use lib.ListN.{length};
-ghost use Rattle.address_set.specs.Map.{has, members, Inserted};
+ghost use Rattle.address_set.specs.Map.{has, members, Inserted, Within};
 ghost use Rattle.address_set.specs.Next.{Next, Lowest};
 
 // What a search for a member finds.
@@ -34,15 +34,18 @@ pub fn insert(map: &mut [u8; 8192], a: u16) -> bool
     (x >> (a % 8)) % 2 == 0
 }
 
-// How many members there are.
-pub fn size(map: &[u8; 8192]) -> u32
+// How many members there are, where all of them lie from `first` to `last`.
+// Only the bytes from `first / 8` to `last / 8` are read, so that a small image costs little.
+pub fn size(map: &[u8; 8192], first: u16, last: u16) -> u32
+    requires { ⌜ Within first last (now map) ⌝ }
     ensures { λ r. ⌜ r ≡ length (members (now (map .entry))) ⌝ }
 {
     // As a slice, it tells the proof that an element is below 256.
     let s = &map[..];
+    let top = (last / 8) as usize;
     let mut n: u32 = 0;
-    let mut i = 0;
-    while i < 8192 {
+    let mut i = (first / 8) as usize;
+    while i <= top {
         n += u8::count_ones(s[i]);
         i += 1;
     }

@@ -1,18 +1,24 @@
--- The outside entries put into the map, one entry after the other: an entry inside changes nothing, and one outside is one more member.
+-- The outside entries put into the map, one entry after the other: an entry inside changes nothing, and one outside is one more member. So the members lie in every
+-- range that has the image and the entries.
 use mathlib.Core.Path.{_≡_, refl, sym, ap, _∙_}
 use mathlib.Core.Bool.{Bool, true, false, _||_, or-true, or-false, and-false}
 use mathlib.Core.List.{List, _∷_}
+use mathlib.Core.Logic.{⊎-elim}
 use Prim.Native.Nat.{ℕ, _+_, _≤_, _<_}
 use native.Mathlib.Decide.{ℕ-discrete}
 use native.Mathlib.Numerals.{add-one}
+use native.Mathlib.Omega.{arith}
 use lib.Dec.{eqb}
 use lib.ListN.{length, getD, drop, drop-of-length-le}
 use lib.Seq.{drop-cons}
 use borrow.Author.Tests.{eq-eqb, ne-eqb}
 use Rattle.lists.specs.Lists.{elem}
+use Rattle.lists.proofs.Tests.{and-left, or-cases}
+use Rattle.lists.proofs.Sets.{elem-mem}
+use Rattle.image.specs.declared.Bounds.{Bounds}
 use Rattle.image.specs.Image.{inside}
-use Rattle.address_set.specs.Map.{has, Inserted}
-use Rattle.diagnosis.specs.Steps.{isOutside, Added}
+use Rattle.address_set.specs.Map.{has, Inserted, Within}
+use Rattle.diagnosis.specs.Steps.{isOutside, Added, Covers}
 
 -- with the entries from i on, the map has what it is to have in the end
 pub record Adding (load last : ℕ) (entries before map : List ℕ) (i : ℕ) : Type 0 where
@@ -53,3 +59,12 @@ module _ {load last : ℕ} {entries before map : List ℕ} {i : ℕ} (h : Adding
 
   pub added-all : length entries ≤ i → Added load last entries before map
   added-all l = record { each = λ a. sym (or-false (has map a)) ∙ rw (drop-of-length-le entries l) at (h .each a) }
+
+pub added-within : {load last : ℕ} {entries map map′ : List ℕ} {range : Bounds} → Within load last map → Added load last entries map map′
+    → Covers load last entries range → Within (range .load) (range .last) map′
+added-within {load} {last} {entries} {map} w added covers =
+    record {
+      each = λ a t.
+          ⊎-elim (λ h. omega (arith, w .each a h, covers .image)) (λ o. covers .each a (elem-mem a entries (and-left (elem a entries) _ o)))
+          (or-cases (has map a) (isOutside load last entries a) (rw (added .each a) at t));
+    }

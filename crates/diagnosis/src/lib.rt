@@ -6,10 +6,10 @@ ghost use lib.ListN.{length};
 ghost use Rattle.lists.specs.Lists.{scan};
 ghost use Rattle.mos6502.specs.Class.{manualClass};
 ghost use Rattle.image.specs.Image.{Lies};
-ghost use Rattle.address_set.specs.Map.{has};
+ghost use Rattle.address_set.specs.Map.{has, Within};
 ghost use Rattle.recorder.specs.Recorded.{pairsOver};
 ghost use Rattle.diagnosis.specs.Answers.{Answers};
-ghost use Rattle.diagnosis.specs.Steps.{isFull, Added, Fills};
+ghost use Rattle.diagnosis.specs.Steps.{isFull, Added, Covers, Fills};
 use image::Address;
 use image::Bounds;
 use opening::Opening;
@@ -60,22 +60,36 @@ fn add_outside(entries: &[u16], bounds: Bounds, map: &mut [u8; 8192])
     }
 }
 
-// Writes the `n` records of the map's members, ascending, with their weights.
+// A range with every address that can be met and every entry. Where all entries are inside it is the image's own, so that a small image costs little.
+fn concerned_range(entries: &[u16], bounds: Bounds) -> Bounds
+    ensures { λ r. ⌜ Covers (bounds .load) (bounds .last) (now (entries .entry)) r ⌝ }
+{
+    if opening::all_inside(entries, bounds) {
+        return bounds;
+    }
+    Bounds {
+        load: 0,
+        last: 0xFFFF,
+    }
+}
+
+// Writes the `n` records of the map's members, which lie in `range`, ascending, with their weights.
 fn fill(
     image: &[u8],
     bounds: Bounds,
     entries: &[u16],
     map: &[u8; 8192],
+    range: Bounds,
     undecoded: Address,
     n: usize,
     slots: &mut [u64],
 )
-    requires { ⌜ Lies (now image) (bounds .load) (bounds .last) × (n ≡ length (pairsOver manualClass (now image) (bounds .load) (bounds .last) undecoded (scan (has (now map)) 0 65536))) × (n ≤ length (now slots)) ⌝ }
+    requires { ⌜ Lies (now image) (bounds .load) (bounds .last) × Within (range .load) (range .last) (now map) × (n ≡ length (pairsOver manualClass (now image) (bounds .load) (bounds .last) undecoded (scan (has (now map)) 0 65536))) × (n ≤ length (now slots)) ⌝ }
     ensures { λ _. ⌜ Fills (now (image .entry)) (bounds .load) (bounds .last) (now (entries .entry)) (now (map .entry)) undecoded (now (slots .entry)) (now (slots .exit)) ⌝ }
 {
     let mut states = [0u8; 256];
     resolver::resolve_all(image, bounds, map, &mut states);
-    recorder::write_records(image, bounds, map, undecoded, &states, slots);
+    recorder::write_records(image, bounds, map, range, undecoded, &states, slots);
     weights::fill_weights(image, bounds, entries, &mut slots[..n]);
 }
 
@@ -95,13 +109,14 @@ pub fn diagnose(image: &[u8], load: u16, entries: &[u16], slots: &mut [u64]) -> 
             }
             let undecoded = recorder::undecoded_of(end);
             let range = extent::extent_of(image, bounds, entries, &map, undecoded, Reading::Plain);
-            let count = address_set::size(&map);
+            let count = address_set::size(&map, bounds.load, bounds.last);
             add_outside(entries, bounds, &mut map);
-            let n = recorder::count_pairs(image, bounds, &map, undecoded);
+            let concerned = concerned_range(entries, bounds);
+            let n = recorder::count_pairs(image, bounds, &map, concerned, undecoded);
             if slots.len() < n {
                 return DiagAnswer::Short(n);
             }
-            fill(image, bounds, entries, &map, undecoded, n, slots);
+            fill(image, bounds, entries, &map, concerned, undecoded, n, slots);
             DiagAnswer::Answered(Summary {
                 low: range.low,
                 high: range.high,

@@ -1,12 +1,12 @@
 //! The records of a walk: which address, which cause, and what stands there.
 
 ghost use mathlib.Core.Path.{_≡_};
-ghost use Prim.Native.Nat.{ℕ, suc, _-_, _+_, _≤_, _<_};
+ghost use Prim.Native.Nat.{suc, _-_, _+_, _≤_};
 ghost use lib.ListN.{length};
 ghost use Rattle.lists.specs.Lists.{scan};
 ghost use Rattle.mos6502.specs.Class.{manualClass};
 ghost use Rattle.image.specs.Image.{Lies};
-ghost use Rattle.address_set.specs.Map.{has};
+ghost use Rattle.address_set.specs.Map.{has, Within};
 ghost use Rattle.site.specs.Site.{listOf};
 ghost use Rattle.walk.specs.Walked.{asEnd};
 ghost use Rattle.resolver.specs.Resolve.{Tells};
@@ -75,15 +75,21 @@ fn count_of(causes: Causes) -> usize
     }
 }
 
-// How many records the members of the map have.
-pub fn count_pairs(image: &[u8], bounds: Bounds, map: &[u8; 8192], undecoded: Address) -> usize
-    requires { ⌜ Lies (now image) (bounds .load) (bounds .last) ⌝ }
+// How many records the members of the map have. All of them lie in `range`, and no more is searched, so that a small image costs little.
+pub fn count_pairs(
+    image: &[u8],
+    bounds: Bounds,
+    map: &[u8; 8192],
+    range: Bounds,
+    undecoded: Address,
+) -> usize
+    requires { ⌜ Lies (now image) (bounds .load) (bounds .last) × Within (range .load) (range .last) (now map) ⌝ }
     ensures { λ r. ⌜ r ≡ length (pairsOver manualClass (now (image .entry)) (bounds .load) (bounds .last) undecoded (scan (has (now (map .entry))) 0 65536)) ⌝ }
 {
     let mut n: usize = 0;
-    let mut from: u32 = 0;
+    let mut from = range.load as u32;
     loop {
-        let Found::At(a) = address_set::next_in(map, from, 0xFFFF) else {
+        let Found::At(a) = address_set::next_in(map, from, range.last) else {
             return n;
         };
         n += count_of(causes_at(image, bounds, undecoded, a));
@@ -159,16 +165,17 @@ fn put(slots: &mut [u64], n: usize, a: u16, causes: Causes, facts: Facts) -> usi
     }
 }
 
-// Writes the records of the map's members, ascending, each with weight 0. One pass of the tracker serves all sites.
+// Writes the records of the map's members, ascending, each with weight 0. One pass of the tracker serves all sites. The members lie in `range`, as above.
 pub fn write_records(
     image: &[u8],
     bounds: Bounds,
     map: &[u8; 8192],
+    range: Bounds,
     undecoded: Address,
     states: &[u8; 256],
     slots: &mut [u64],
 )
-    requires { ⌜ Lies (now image) (bounds .load) (bounds .last) × Tells (now image) (bounds .load) (scan (has (now map)) (bounds .load) (suc (bounds .last) - bounds .load)) (now states) × (length (pairsOver manualClass (now image) (bounds .load) (bounds .last) undecoded (scan (has (now map)) 0 65536)) ≤ length (now slots)) ⌝ }
+    requires { ⌜ Lies (now image) (bounds .load) (bounds .last) × Within (range .load) (range .last) (now map) × Tells (now image) (bounds .load) (scan (has (now map)) (bounds .load) (suc (bounds .last) - bounds .load)) (now states) × (length (pairsOver manualClass (now image) (bounds .load) (bounds .last) undecoded (scan (has (now map)) 0 65536)) ≤ length (now slots)) ⌝ }
     ensures { λ _. ⌜ Written (now (image .entry)) (bounds .load) (bounds .last) undecoded (now (map .entry)) (now (slots .entry)) (now (slots .exit)) ⌝ }
 {
     let load = bounds.load;
@@ -176,9 +183,9 @@ pub fn write_records(
     let mut marks = [0u8; 256];
     let mut place = Place::start();
     let mut n: usize = 0;
-    let mut from: u32 = 0;
+    let mut from = range.load as u32;
     loop {
-        let Found::At(a) = address_set::next_in(map, from, 0xFFFF) else {
+        let Found::At(a) = address_set::next_in(map, from, range.last) else {
             return;
         };
         let causes = causes_at(image, bounds, undecoded, a);

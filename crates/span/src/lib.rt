@@ -62,7 +62,7 @@ fn span_by(image: &[u8], load: u16, entries: &[u16], reading: Reading) -> SpanAn
                     SpanAnswer::Given(Span {
                         low: e.low,
                         high: e.high,
-                        count: address_set::size(&map),
+                        count: address_set::size(&map, bounds.load, bounds.last),
                     })
                 }
                 End::Refused(_) => SpanAnswer::Refused,

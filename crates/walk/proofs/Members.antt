@@ -14,7 +14,7 @@ use Rattle.mos6502.specs.declared.Decoded.{Decoded}
 use Rattle.mos6502.specs.Class.{manualClass}
 use Rattle.image.specs.Image.{inside}
 use Rattle.image.proofs.Inside.{inside-bounds}
-use Rattle.address_set.specs.Map.{has, members}
+use Rattle.address_set.specs.Map.{has, members, Within}
 use Rattle.address_set.proofs.Laws.{members-mem, members-ascending}
 use Rattle.reach.specs.Walk as machine
 use Rattle.reach.proofs.Sound.{sound}
@@ -45,6 +45,9 @@ module _ {rule : Rule} {image : List ℕ} {load last : ℕ} {entries : List ℕ}
 
   has-met : (a : ℕ) → T (has map a) ↔ a ∈ w .met
   has-met a = (λ t. elem-mem a (w .met) (rw (w .exact a) at t), λ k. rw (w .exact a) (mem-elem k))
+
+  pub met-within : Within load last map
+  met-within = record { each = λ a t. met-inside a (has-met a .0 t) }
 
   pub met-members : (a : ℕ) → a ∈ members map ↔ a ∈ w .met
   met-members a = (

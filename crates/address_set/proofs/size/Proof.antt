@@ -1,6 +1,7 @@
--- `address_set::size` meets its contract: the ones of the byte i are as many as the members from i * 8 on and below (i + 1) * 8.
-use mathlib.Core.Path.{_≡_, refl, ap, _∙_}
-use mathlib.Core.List.{List}
+-- `address_set::size` meets its contract: the ones of the byte i are as many as the members from i * 8 on and below (i + 1) * 8, and the bytes that it leaves
+-- out, before that of `first` and after that of `last`, have none.
+use mathlib.Core.Path.{_≡_, sym, ap, _∙_}
+use mathlib.Core.List.{List, []}
 use Prim.Native.Nat.{ℕ, zero, suc, _+_, _-_, _*_, _/_, _^_, _≤_, _<_}
 use native.Mathlib.Nat.{add-zero, zero-add, div-one}
 use native.Mathlib.Omega.{arith}
@@ -10,8 +11,9 @@ use lib.Dec.{eqb}
 use lib.ListN.{length, getD, length-append}
 use lib.Pow.{shr-lt, shr-shr}
 use Rattle.lists.specs.Lists.{keep, scan}
-use Rattle.lists.proofs.Scan.{scan-split, scan-length}
-use Rattle.address_set.specs.Map.{bit, has, members}
+use Rattle.lists.proofs.Scan.{scan-split, scan-none, scan-within, scan-length}
+use Rattle.lists.proofs.Tests.{fail}
+use Rattle.address_set.specs.Map.{bit, has, members, Within}
 use Rattle.address_set.proofs.Bit.{bit-lt}
 use Rattle.address_set.proofs.Laws.{has-at}
 use Rattle.address_set.proofs.size.Statement.{statement}
@@ -40,16 +42,32 @@ module _ (m : List ℕ) (i : ℕ) where
       let e : (i + 1) * 8 ≡ i * 8 + 8 = omega arith in
       rw (e, scan-split, length-append, zero-add, ← add-zero (i * 8), ones-from 8 0 (omega arith) h, div-one)
 
+module _ {m : List ℕ} {first last : ℕ} (within : Within first last m) (i : ℕ) where
+  -- the bytes below i, and those from i on, where they lie out of the range
+  none-before : i * 8 ≤ first → scan (has m) 0 (i * 8) ≡ []
+  none-before h = scan-none (has m) 0 (i * 8) (λ b p q. fail (has m b) (λ t. omega (arith, within .each b t)))
+
+  none-after : last < i * 8 → i ≤ 8192 → members m ≡ scan (has m) 0 (i * 8)
+  unfolding members
+  none-after h p =
+      let e : i * 8 - 0 ≡ i * 8 = omega arith in
+      scan-within (has m) 0 0 (i * 8) 65536 (omega arith) (omega arith) (omega arith) (λ b x y t. omega (arith, within .each b t)) ∙ ap (scan (has m) 0) e
+
 -- n counts the members that the first i bytes tell of
 abbrev Inv-loop : tie.InvT-loop
-Inv-loop map s n₀ i₀ n i = (i ≤ 8192) × (n ≡ length (scan (has map) 0 (i * 8)))
+Inv-loop map first last s top n₀ i₀ n i = (i ≤ 8192) × (n ≡ length (scan (has map) 0 (i * 8)))
 
 abbrev μ-loop : tie.MeasureT-loop
-μ-loop map s n₀ i₀ n i = 8192 - i
+μ-loop map first last s top n₀ i₀ n i = suc top - i
+
+cast-top : tie.Need-cast-top Inv-loop μ-loop
+cast-top c = omega arith
+
+cast-i : tie.Need-cast-i Inv-loop μ-loop
+cast-i c = omega arith
 
 loop-holds : tie.Need-loop-holds Inv-loop μ-loop
-unfolding scan
-loop-holds c = (omega arith, refl)
+loop-holds c = (omega arith, sym (ap length (none-before (c .before .pre) _ (omega arith))))
 
 shared-slice-read-n : tie.Need-shared-slice-read-n Inv-loop μ-loop
 shared-slice-read-n c = omega arith
@@ -72,10 +90,9 @@ loop-again c =
     omega (arith, byte-more (l .before .before .args .map .now) (l .loop .i) (c .shared-slice-known .given (l .loop .i) .fits))
 
 returns : tie.Need-returns Inv-loop μ-loop
-unfolding members
 returns c =
-    let e : c .before .loop .i ≡ 8192 = omega arith in
-    c .before .loop .inv .1 ∙ rw e
+    let l = c .before in
+    l .loop .inv .1 ∙ sym (ap length (none-after (l .before .before .pre) (l .loop .i) (omega arith) (l .loop .inv .0)))
 
 pub size-spec : {M : Type 1} → statement M
 size-spec =
@@ -83,6 +100,8 @@ size-spec =
     (tie.spec
     Inv-loop
     μ-loop
+    cast-top
+    cast-i
     loop-holds
     shared-slice-read-n
     add-n

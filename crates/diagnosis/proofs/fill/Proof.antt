@@ -36,7 +36,7 @@ returns c =
     let w = f .before .before .before .before in
     let s = w .before .before .before .before .before .before .before in
     let a = s .before .args in
-    fills _ _ _ _ _ _ (λ x. s .shared-slice-known .given (x - a .bounds .load) .fits) (s .before .pre .1) (w .write-records .ensures) (f .fill-weights .ensures)
+    fills _ _ _ _ _ _ (λ x. s .shared-slice-known .given (x - a .bounds .load) .fits) (s .before .pre .2) (w .write-records .ensures) (f .fill-weights .ensures)
 
 pub fill-spec : {M : Type 1} → statement M
 fill-spec =

@@ -1,5 +1,5 @@
 -- `recorder::write_records` meets its contract. The loop's invariant: the records of the members below `from` fill the first n slots, and the tracker, which stands
--- no further than `from`, can go on to every later site.
+-- no further than `from`, can go on to every later site. At the start no member is below `from`, the first address of the range.
 use mathlib.Core.Path.{_≡_, refl, sym, ap, _∙_}
 use mathlib.Core.List.{List, _++_}
 use mathlib.Core.Logic.{⊎-elim}
@@ -19,7 +19,7 @@ use Rattle.site.specs.Site.{listOf}
 use Rattle.tracker.specs.Track.{nothing, Reached, stateOf}
 use Rattle.tracker.proofs.Passage.{reached-start}
 use Rattle.recorder.specs.Records.{recordsWith}
-use Rattle.recorder.proofs.Members.{recordsFrom, records-next, records-end}
+use Rattle.recorder.proofs.Members.{recordsFrom, records-all, records-next, records-end}
 use Rattle.recorder.proofs.Filling.{filled-put}
 use Rattle.recorder.proofs.Sharing.{Ready, ready-inside, ready-outside}
 use Rattle.recorder.proofs.write_records.Statement.{statement}
@@ -34,19 +34,27 @@ abbrev records-from : (image : List ℕ) (bounds : Bounds) (map : List ℕ) (und
 records-from image bounds map undecoded = recordsFrom image (bounds .load) (bounds .last) (met bounds map) undecoded map
 
 abbrev Inv-loop : tie.InvT-loop
-Inv-loop image bounds map undecoded states slots₀ load zp₀ marks₀ place₀ n₀ from₀ slots zp marks place n from =
+Inv-loop image bounds map range undecoded states slots₀ load zp₀ marks₀ place₀ n₀ from₀ slots zp marks place n from =
     let records = records-from image bounds map undecoded in
     Filled (records 0) (records from) slots₀ slots n × Reached image (place .at) (stateOf (place .regs) zp marks) × (place .at ≤ from - bounds .load)
 
 abbrev μ-loop : tie.MeasureT-loop
-μ-loop image bounds map undecoded states slots₀ load zp₀ marks₀ place₀ n₀ from₀ slots zp marks place n from = suc 0xFFFF - from
+μ-loop image bounds map range undecoded states slots₀ load zp₀ marks₀ place₀ n₀ from₀ slots zp marks place n from = suc 0xFFFF - from
 
 start-requires : tie.Need-start-requires Inv-loop μ-loop
 start-requires c κs = search needs
 
+cast-from : tie.Need-cast-from Inv-loop μ-loop
+cast-from c = omega arith
+
 loop-holds : tie.Need-loop-holds Inv-loop μ-loop
 unfolding nothing
-loop-holds c = rw (c .start .ensures .0, c .start .ensures .1) (filled-none _ _, reached-start _, omega arith)
+loop-holds c =
+    let made = c .before .start .ensures in
+    let start = c .before .before .before .before in
+    let args = start .args in
+    let all-left = records-all (start .pre .1) (args .image .now) (args .bounds .load) (args .bounds .last) (met (args .bounds) (args .map .now)) (args .undecoded) (omega arith) in
+    rw (made .0, made .1, all-left) (filled-none _ _, reached-start _, omega arith)
 
 next-in-requires : tie.Need-next-in-requires Inv-loop μ-loop
 next-in-requires c κs = search needs
@@ -60,22 +68,23 @@ enum-told c = search needs
 -- all records fit
 fits : (c : tie.Start Inv-loop μ-loop)
     → length (records-from (c .args .image .now) (c .args .bounds) (c .args .map .now) (c .args .undecoded) 0) ≤ length (c .args .slots .now)
-fits c = rw length-map (c .pre .2)
+fits c = rw length-map (c .pre .3)
 
 same-length : tie.Need-same-length Inv-loop μ-loop
 same-length c =
     let turn = c .before .before .before in
-    filled-length (turn .loop .inv .0) (fits (turn .before .before .before .before))
+    filled-length (turn .loop .inv .0) (fits (turn .before .before .before .before .before))
 
 returns : tie.Need-returns Inv-loop μ-loop
 returns c =
     let searched = c .before .before in
     let turn = searched .before in
-    let none-left = records-end _ _ (searched .next-in .ensures) _ _ _ _ _ (c .enum-told .given .1) in
+    let start = turn .before .before .before .before .before in
+    let none-left = records-end (start .pre .1) (omega arith) _ (searched .next-in .ensures) _ _ _ _ _ (c .enum-told .given .1) in
     record { after = rw length-map at (filled-all (turn .loop .inv .0) none-left) }
 
 causes-at-requires : tie.Need-causes-at-requires Inv-loop μ-loop
-causes-at-requires c κs = c .before .before .before .before .before .before .before .before .pre .0
+causes-at-requires c κs = c .before .before .before .before .before .before .before .before .before .pre .0
 
 inside-requires : tie.Need-inside-requires Inv-loop μ-loop
 inside-requires c κs = search needs
@@ -89,9 +98,9 @@ module _ (c : tie.After-known-told Inv-loop μ-loop) where
   turn = c .before .before .before .before
 
   abbrev start : tie.Start Inv-loop μ-loop
-  start = turn .before .before .before .before
+  start = turn .before .before .before .before .before
 
-  least : Least (start .args .map .now) (turn .loop .from) 0xFFFF a
+  least : Least (start .args .map .now) (turn .loop .from) (start .args .range .last) a
   least = found-least _ _ _ (c .before .before .before .next-in .ensures) (c .before .a .given .1)
 
 -- where the address is inside
@@ -139,7 +148,7 @@ ready c =
     let test = sym (c .before .inside .ensures) in
     ⊎-elim
     (λ w. rw (w .9, w .10, w .11, w .12)
-    (ready-inside (test ∙ w .0 .taken) (w .3 .ensures) (start found .pre .1) (w .4 .ensures) (w .7 .ensures) (w .8 .ensures)))
+    (ready-inside (test ∙ w .0 .taken) (w .3 .ensures) (start found .pre .2) (w .4 .ensures) (w .7 .ensures) (w .8 .ensures)))
     (λ w. rw (w .1, w .2, w .3, w .4)
     (ready-outside (test ∙ w .0 .left) refl (turn found .loop .inv .1) (omega (arith, least found, turn found .loop .inv .2))))
     (c .if1 .came)
@@ -152,7 +161,7 @@ next : (c : tie.Joined1 Inv-loop μ-loop)
     records (turn found .loop .from) ≡ recordsWith (c .if1 .facts) (a found) (listOf (c .before .before .causes-at .result)) ++ records (a found + 1)
 next c =
     let found = c .before .before .before in
-    records-next _ _ (found .before .before .before .next-in .ensures) _ _ _ _ _ (found .before .a .given .1)
+    records-next (start found .pre .1) (omega arith) _ (found .before .before .before .next-in .ensures) _ _ _ _ _ (found .before .a .given .1)
     ∙ rw (c .before .before .causes-at .ensures, ready c .records)
 
 put-requires : tie.Need-put-requires Inv-loop μ-loop
@@ -161,8 +170,8 @@ put-requires c κs =
     omega
     (arith, simp length-map at (filled-room (turn found .loop .inv .0) (fits (start found))), simp (length-append, length-map) at (ap length (next (c .before))))
 
-cast-from : tie.Need-cast-from Inv-loop μ-loop
-cast-from c = omega (arith, least (c .before .before .before .before .before .before .before))
+cast-from-2 : tie.Need-cast-from-2 Inv-loop μ-loop
+cast-from-2 c = omega (arith, least (c .before .before .before .before .before .before .before))
 
 add-from : tie.Need-add-from Inv-loop μ-loop
 add-from c = omega (arith, least (c .before .before .before .before .before .before .before))
@@ -184,6 +193,7 @@ write-records-spec =
     Inv-loop
     μ-loop
     start-requires
+    cast-from
     loop-holds
     next-in-requires
     enum-known-a
@@ -200,7 +210,7 @@ write-records-spec =
     pair-known-requires
     pair-known-requires-2
     put-requires
-    cast-from
+    cast-from-2
     add-from
     loop-less
     loop-again)

@@ -5,6 +5,7 @@ use lib.ListN.{length-replicate}
 use borrow.Author.Tests.{not-true, not-false}
 use borrow.Author.Needs.{needs}
 use Rattle.address_set.proofs.Laws.{empty-has}
+use Rattle.walk.proofs.Members.{met-within}
 use Rattle.walk.proofs.Possible.{refused≢finished, spent≢finished}
 use Rattle.opening.proofs.First.{opened-as, without-image, without-entries, above-top, image-lies}
 use Rattle.span.proofs.Outcome.{outside, stopped, filled, spanned}
@@ -51,7 +52,11 @@ extent-of-requires c κs =
     image-lies (a .image .now) (a .load) (a .entries .now) (opened-as (a .image .now) (a .load) (a .entries .now) (b .before .before .«open» .ensures) (b .bounds .given .1))
 
 size-requires : tie.Need-size-requires
-size-requires c κs = search needs
+size-requires c κs =
+    let w = c .before .before .before .before .before in
+    let b = w .before .before .before .before .before in
+    let a = b .before .before .before .before .before .args in
+    met-within (w .walk .ensures) (image-lies (a .image .now) (a .load) (a .entries .now) (opened-as (a .image .now) (a .load) (a .entries .now) (b .before .before .«open» .ensures) (b .bounds .given .1)) .top)
 
 enum-told-5 : tie.Need-enum-told-5
 enum-told-5 c = search needs
