@@ -87,6 +87,10 @@ fn fill(
     requires { ⌜ Lies (now image) (bounds .load) (bounds .last) × Within (range .load) (range .last) (now map) × (n ≡ length (pairsOver manualClass (now image) (bounds .load) (bounds .last) undecoded (scan (has (now map)) 0 65536))) × (n ≤ length (now slots)) ⌝ }
     ensures { λ _. ⌜ Fills (now (image .entry)) (bounds .load) (bounds .last) (now (entries .entry)) (now (map .entry)) undecoded (now (slots .entry)) (now (slots .exit)) ⌝ }
 {
+    // Nothing to write: then no entry need be walked for its weights.
+    if n == 0 {
+        return;
+    }
     let mut states = [0u8; 256];
     resolver::resolve_all(image, bounds, map, &mut states);
     recorder::write_records(image, bounds, map, range, undecoded, &states, slots);
