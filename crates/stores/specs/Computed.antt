@@ -6,7 +6,7 @@ use lib.ListN.{length}
 use Rattle.mos6502.specs.declared.Decoded.{Decoded}
 use Rattle.writes.specs.declared.Wr.{Wr}
 use Rattle.image.specs.Image.{last, inside}
-use Rattle.reach.specs.Walk.{End, finished, refused, spent, full, Turn, turns, halts, start, after}
+use Rattle.reach.specs.Walk.{End, finished, refused, spent, full, Turn, start, after}
 use Rattle.walk.specs.declared.Rule.the-variants as rule
 use Rattle.walk.specs.Walked.{limit, stepIn, ordered}
 use Rattle.stores.specs.declared.StoresAnswer.{StoresAnswer}
@@ -35,12 +35,3 @@ module _ (class : ℕ → Decoded) (writes : ℕ → Wr) (image : List ℕ) (loa
   recordsFrom (refused pc) met = []
   recordsFrom (spent pc) met = []
   recordsFrom (full pc) met = []
-
-  -- a walk that has not ended by then has no answer here, which reads as Full
-  abbrev pub answerAfter : Turn → StoresAnswer
-  answerAfter (halts e met) = answerOf e met
-  answerAfter (turns s) = Full
-
-  abbrev pub recordsAfter : Turn → List ℕ
-  recordsAfter (halts e met) = recordsFrom e met
-  recordsAfter (turns s) = []
