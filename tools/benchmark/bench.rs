@@ -165,6 +165,7 @@ fn cases() -> Vec<Case> {
         case("1,000 instructions, 900 entries", Call::Diagnosis, program(1_000, &[]), 900),
         case("1,000 instructions, 300 of them 91, 1 entry", Call::Diagnosis, program(1_000, &[0x91, 0xFB]), 1),
         case("1,000 instructions, 300 of them 91, 30 entries", Call::Diagnosis, program(1_000, &[0x91, 0xFB]), 30),
+        case("1,000 instructions, 300 of them 91, 900 entries", Call::Diagnosis, program(1_000, &[0x91, 0xFB]), 900),
         case("1,000 instructions, no 91", Call::Stores, program(1_000, &[0x8D, 0x00, 0xC1]), 1),
         case("1,000 instructions, 300 of them 91", Call::Stores, program(1_000, &[0x91, 0xFB]), 1),
         case("48 KB", Call::Tracker, tracked(49_152), 1),

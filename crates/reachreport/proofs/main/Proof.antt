@@ -1,63 +1,51 @@
 -- `reachreport::main` meets its contract: what is read is a part of its buffer, and so is the report that is written.
-use Rattle.report.proofs.Parts.{written-there}
-use lib.Seq.{length-take-le}
 use mathlib.Core.Path.{sym}
+use lib.Seq.{length-take-le}
 use borrow.Author.Needs.{needs}
+use Rattle.report.proofs.Parts.{written-there}
 use Rattle.reachreport.proofs.main.Statement.{statement}
 use Rattle.reachreport.proofs.main.Tie as tie
 
--- src/main.rt:10:41
 slice-aggregate-read-full : tie.Need-slice-aggregate-read-full
 slice-aggregate-read-full c = search needs
 
--- src/main.rt:10:9
 read-full-requires : tie.Need-read-full-requires
 read-full-requires c κs = search needs
 
--- src/main.rt:13:26
 array-share-prefix-bytes : tie.Need-array-share-prefix-bytes
 array-share-prefix-bytes c = search needs
 
--- src/main.rt:13:26
 slice-aggregate-report : tie.Need-slice-aggregate-report
 slice-aggregate-report c = search needs
 
--- src/main.rt:13:39
 slice-aggregate-report-2 : tie.Need-slice-aggregate-report-2
 slice-aggregate-report-2 c = search needs
 
--- src/main.rt:13:11
 report-requires : tie.Need-report-requires
 report-requires c κs = search needs
 
--- src/main.rt:14:31
 enum-known-m : tie.Need-enum-known-m
 enum-known-m c = search needs
 
--- src/main.rt:15:42
 array-share-prefix-out : tie.Need-array-share-prefix-out
 array-share-prefix-out c =
     let told = c .before in
     written-there _ _ _ (told .before .before .before .report .ensures) (told .m .given .1)
 
--- src/main.rt:15:42
 slice-aggregate-write-all : tie.Need-slice-aggregate-write-all
 slice-aggregate-write-all c =
     let told = c .before .before in
     sym (length-take-le _ _ (written-there _ _ _ (told .before .before .before .report .ensures) (told .m .given .1)))
 
--- src/main.rt:15:13
 write-all-requires : tie.Need-write-all-requires
 write-all-requires c κs = search needs
 
 enum-told : tie.Need-enum-told
 enum-told c = search needs
 
--- src/main.rt:7:1
 returns : tie.Need-returns
 returns c = search needs
 
--- src/main.rt:7:1
 returns-2 : tie.Need-returns-2
 returns-2 c = search needs
 
