@@ -6,7 +6,7 @@ ghost use Rattle.address_set.specs.Map.{has, members, Inserted, Within};
 ghost use Rattle.address_set.specs.Next.{Next, Lowest};
 
 // What a search for a member finds.
-#[derive(Drop)]
+#[derive(Clone, Copy)]
 pub enum Found {
     At(u16),
     Nothing,

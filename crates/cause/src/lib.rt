@@ -3,7 +3,7 @@
 ghost use Rattle.std.specs.Prelude.{◌≡◌};
 ghost use Rattle.cause.specs.Cause.{number_of, cause_at, slug_of, padded, key_of};
 
-#[derive(Drop)]
+#[derive(Clone, Copy)]
 pub enum RefusalCause {
     IllegalOpcode,
     Brk,
@@ -17,7 +17,7 @@ pub enum RefusalCause {
 }
 
 // A slug's bytes, in place of the Rust's `&'static str`: the first `len` are the slug, the others are 0.
-#[derive(Drop)]
+#[derive(Clone, Copy)]
 pub struct Slug {
     pub bytes: [u8; 15],
     pub len: usize,

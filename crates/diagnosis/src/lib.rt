@@ -15,7 +15,7 @@ use site::Reading;
 use walk::{End, Rule};
 
 // The range, the number of addresses met, and the number of records.
-#[derive(Drop)]
+#[derive(Clone, Copy)]
 pub struct Summary {
     pub low: u16,
     pub high: u16,
@@ -24,7 +24,7 @@ pub struct Summary {
 }
 
 // 01's answers 0, 1, 2, 3, 6 and 7. A list too short is refused with the number of records it needs.
-#[derive(Drop)]
+#[derive(Clone, Copy)]
 pub enum DiagAnswer {
     Answered(Summary),
     ImageEmpty,

@@ -12,7 +12,7 @@ use address_set::Found;
 use image::{Address, Bounds};
 use site::{Reading, Run, Site};
 
-#[derive(Drop)]
+#[derive(Clone, Copy)]
 pub struct Extent {
     pub low: u16,
     pub high: u16,

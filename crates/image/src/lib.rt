@@ -5,14 +5,14 @@ ghost use Rattle.image.specs.Image.{inside, byte_at, word_at, branch_target, sto
 ghost use Rattle.image.specs.Answers.{place, next_of, wrapped_byte, sum_within, difference};
 
 // The first and the last address of an image.
-#[derive(Drop)]
+#[derive(Clone, Copy)]
 pub struct Bounds {
     pub load: u16,
     pub last: u16,
 }
 
 // Where an image lies, or why it has no place: it is empty, or it ends past 0xFFFF.
-#[derive(Drop)]
+#[derive(Clone, Copy)]
 pub enum Placed {
     At(Bounds),
     Empty,
@@ -20,21 +20,21 @@ pub enum Placed {
 }
 
 // An address, where there is one.
-#[derive(Drop)]
+#[derive(Clone, Copy)]
 pub enum Address {
     At(u16),
     Nowhere,
 }
 
 // The byte that the image holds at an address, if it holds one.
-#[derive(Drop)]
+#[derive(Clone, Copy)]
 pub enum Held {
     Byte(u8),
     Absent,
 }
 
 // A sum or a difference, if it is in range.
-#[derive(Drop)]
+#[derive(Clone, Copy)]
 pub enum Checked {
     Fits(u16),
     Fails,

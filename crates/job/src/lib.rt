@@ -13,7 +13,7 @@ pub const MOST_ENTRIES: usize = 1024;
 pub const MOST_BYTES: usize = 49152;
 
 // Where the parts of a job stand in its bytes.
-#[derive(Drop)]
+#[derive(Clone, Copy)]
 pub struct Job {
     pub load: u16,
     // How many entries there are.
@@ -24,7 +24,7 @@ pub struct Job {
 }
 
 // 01's answers 0, 8, 9 and 10.
-#[derive(Drop)]
+#[derive(Clone, Copy)]
 pub enum JobAnswer {
     Read(Job),
     Short,
@@ -33,7 +33,7 @@ pub enum JobAnswer {
 }
 
 // A job was written, in so many bytes; it has too many entries or too long an image; or the lent buffer is shorter than it.
-#[derive(Drop)]
+#[derive(Clone, Copy)]
 pub enum WriteAnswer {
     Written(usize),
     TooLarge,

@@ -7,21 +7,21 @@ use job::WriteAnswer;
 use libc::{STDERR_FILENO, STDIN_FILENO, STDOUT_FILENO};
 
 // What a word spells.
-#[derive(Drop)]
+#[derive(Clone, Copy)]
 pub enum Parsed {
     Address(u16),
     Other,
 }
 
 // Where an image's load address comes from: an argument, or its own first two bytes.
-#[derive(Drop)]
+#[derive(Clone, Copy)]
 pub enum Load {
     Told(u16),
     Prg,
 }
 
 // The load address of an input, and where its image begins; or a prg that is shorter than its load address.
-#[derive(Drop)]
+#[derive(Clone, Copy)]
 pub enum Input {
     Image(u16, usize),
     Cut,

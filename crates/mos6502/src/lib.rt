@@ -5,7 +5,7 @@ ghost use Rattle.mos6502.specs.Class.{length_of, manual_class};
 ghost use Rattle.mos6502.specs.Packed.{mode_at, flow_at, pack};
 
 // How the operand is addressed. `Imp` is implied and accumulator; `Illegal` is an opcode that the manual does not have.
-#[derive(Drop)]
+#[derive(Clone, Copy)]
 pub enum Mode {
     Imp,
     Imm,
@@ -23,7 +23,7 @@ pub enum Mode {
 }
 
 // What the instruction does to control flow.
-#[derive(Drop)]
+#[derive(Clone, Copy)]
 pub enum Flow {
     Next,
     Jump,
@@ -34,7 +34,7 @@ pub enum Flow {
 }
 
 // The class of an opcode, in place of the Rust's pair.
-#[derive(Drop)]
+#[derive(Clone, Copy)]
 pub struct Decoded {
     pub mode: Mode,
     pub flow: Flow,

@@ -6,7 +6,7 @@ ghost use Rattle.opening.specs.Opening.{opening_of, all_inside};
 use image::{Bounds, Placed};
 
 // The bounds of the image, or the refusal: 1, 2 or 3, the lowest wins.
-#[derive(Drop)]
+#[derive(Clone, Copy)]
 pub enum Opening {
     At(Bounds),
     ImageEmpty,

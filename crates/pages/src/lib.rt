@@ -14,7 +14,7 @@ use resolver::Seen;
 use tracker::{Known, Registers};
 
 // What one instruction stores, outside zero page and the stack.
-#[derive(Drop)]
+#[derive(Clone, Copy)]
 pub enum StoreSpan {
     Nothing,
     Bytes(u16, u16),
@@ -23,7 +23,7 @@ pub enum StoreSpan {
 }
 
 // What the tracker knows of a pointer, and of X.
-#[derive(Drop)]
+#[derive(Clone, Copy)]
 pub struct Pointer {
     pub low: Known,
     pub high: Known,
@@ -31,7 +31,7 @@ pub struct Pointer {
 }
 
 // What the instructions met do with a pointer's high byte: INC, DEC, the limit that LDA and CMP give; and whether there is a DEX.
-#[derive(Drop)]
+#[derive(Clone, Copy)]
 pub struct Habit {
     pub up: bool,
     pub down: bool,

@@ -21,14 +21,14 @@ use tracker::Place;
 use walk::End;
 
 // An address and a cause recorded there.
-#[derive(Drop)]
+#[derive(Clone, Copy)]
 pub struct Pair {
     pub address: u16,
     pub cause: RefusalCause,
 }
 
 // What the records of one address share.
-#[derive(Drop)]
+#[derive(Clone, Copy)]
 pub struct Facts {
     pub opcode: u8,
     pub pointer: u8,

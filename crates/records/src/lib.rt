@@ -5,7 +5,7 @@ ghost use Rattle.records.specs.Packed.{flag, packed, address_of, cause_of, opcod
 
 use cause::RefusalCause;
 
-#[derive(Drop)]
+#[derive(Clone, Copy)]
 pub struct Fields {
     pub address: u16,
     pub cause: RefusalCause,

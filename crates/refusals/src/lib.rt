@@ -9,7 +9,7 @@ use cause::RefusalCause;
 use diagnosis::DiagAnswer;
 
 // A record, unpacked: the Rust's fields in its order. Its `Option<u8>` is `zp` and `has_zp`; an absent pointer is 0.
-#[derive(Drop)]
+#[derive(Clone, Copy)]
 pub struct ReachRefusal {
     pub addr: u16,
     pub opcode: u8,
@@ -22,7 +22,7 @@ pub struct ReachRefusal {
 }
 
 // 01's answers 0 and 6: the number of structs written, or the number that the lent slice needs.
-#[derive(Drop)]
+#[derive(Clone, Copy)]
 pub enum UnpackAnswer {
     Unpacked(usize),
     Short(usize),

@@ -35,21 +35,21 @@ const NO_REFUSAL: u64 = 0xFFFF_FFFF_FFFF_FFFF;
 const NO_STORE: u32 = 0xFFFF_0000;
 
 // What a call with a list of another length gave: the number of records that it told, and how many slots are not what they must be.
-#[derive(Drop)]
+#[derive(Clone, Copy)]
 struct Tried {
     records: usize,
     unlike: usize,
 }
 
 // What a call answers with exactly as many slots as it needs, with one fewer and with some to spare.
-#[derive(Drop)]
+#[derive(Clone, Copy)]
 struct DiagTests {
     answer: DiagAnswer,
     short: Tried,
     spare: Tried,
 }
 
-#[derive(Drop)]
+#[derive(Clone, Copy)]
 struct StoresTests {
     answer: StoresAnswer,
     short: Tried,

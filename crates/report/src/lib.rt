@@ -13,7 +13,7 @@ use span::SpanAnswer;
 use stores::StoresAnswer;
 
 // How many bytes were written, or how many are needed.
-#[derive(Drop)]
+#[derive(Clone, Copy)]
 pub enum ReportAnswer {
     Written(usize),
     Short(usize),

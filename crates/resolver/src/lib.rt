@@ -11,7 +11,7 @@ use image::{Bounds, Held};
 use tracker::{Known, Registers};
 
 // What the stores to one zero-page byte say of it.
-#[derive(Drop)]
+#[derive(Clone, Copy)]
 pub enum Seen {
     Never,
     Holds(u8),

@@ -11,14 +11,14 @@ use image::{Address, Bounds};
 use mos6502::{Flow, Mode};
 
 // The causes of a site in cause order. A refused site is one that has any.
-#[derive(Drop)]
+#[derive(Clone, Copy)]
 pub enum Causes {
     Clear,
     One(RefusalCause),
     Two(RefusalCause, RefusalCause),
 }
 
-#[derive(Drop)]
+#[derive(Clone, Copy)]
 pub struct Site {
     pub opcode: u8,
     pub mode: Mode,
@@ -36,14 +36,14 @@ pub struct Site {
 }
 
 // Which addresses count as named: the Rust's rule, or the guarded one.
-#[derive(Drop)]
+#[derive(Clone, Copy)]
 pub enum Reading {
     Plain,
     Guarded,
 }
 
 // How much an operand names.
-#[derive(Drop)]
+#[derive(Clone, Copy)]
 pub enum Width {
     Nothing,
     Base,
@@ -51,7 +51,7 @@ pub enum Width {
 }
 
 // The least and the greatest of some addresses.
-#[derive(Drop)]
+#[derive(Clone, Copy)]
 pub enum Run {
     From(u16, u16),
     Empty,

@@ -10,7 +10,7 @@ use site::Reading;
 use walk::{End, Rule};
 
 // The lowest and the highest address that count, and how many instructions are reachable.
-#[derive(Drop)]
+#[derive(Clone, Copy)]
 pub struct Span {
     pub low: u16,
     pub high: u16,
@@ -18,7 +18,7 @@ pub struct Span {
 }
 
 // 01's answers 0, 1, 2, 3, 4 and 7.
-#[derive(Drop)]
+#[derive(Clone, Copy)]
 pub enum SpanAnswer {
     Given(Span),
     ImageEmpty,
@@ -29,7 +29,7 @@ pub enum SpanAnswer {
 }
 
 // The same answers, with the highest address alone.
-#[derive(Drop)]
+#[derive(Clone, Copy)]
 pub enum EndAnswer {
     Given(u16),
     ImageEmpty,

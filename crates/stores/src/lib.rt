@@ -19,7 +19,7 @@ use walk::{End, Rule};
 use writes::Wr;
 
 // 01's answers 0 to 7. A list too short is refused with the number of records it needs.
-#[derive(Drop)]
+#[derive(Clone, Copy)]
 pub enum StoresAnswer {
     Answered(usize),
     ImageEmpty,
@@ -32,7 +32,7 @@ pub enum StoresAnswer {
 }
 
 // How many records there are, or that a store has no bounded span.
-#[derive(Drop)]
+#[derive(Clone, Copy)]
 pub enum Gathered {
     Records(usize),
     Unbounded,

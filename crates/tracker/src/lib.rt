@@ -4,13 +4,13 @@ ghost use Rattle.std.specs.Prelude.{◌≡◌, ◌+◌, ◌≤◌, ◌<◌, leng
 ghost use Rattle.tracker.specs.Track.{nothing, is_tracked, loaded, stored, zp_with, marks_with, value_in, state_of, tracked, Reached, Stands};
 
 // A register's value, if it is known.
-#[derive(Drop)]
+#[derive(Clone, Copy)]
 pub enum Known {
     Value(u8),
     Unknown,
 }
 
-#[derive(Drop)]
+#[derive(Clone, Copy)]
 pub struct Registers {
     pub a: Known,
     pub x: Known,
@@ -18,7 +18,7 @@ pub struct Registers {
 }
 
 // The registers, the zero page, and a mark of 1 at each zero-page byte that is known.
-#[derive(Drop)]
+#[derive(Clone, Copy)]
 pub struct ImmState {
     pub regs: Registers,
     pub zp: [u8; 256],
@@ -26,7 +26,7 @@ pub struct ImmState {
 }
 
 // Where the tracker stands in a run, and what the registers hold there. The zero page and its marks are lent beside it.
-#[derive(Drop)]
+#[derive(Clone, Copy)]
 pub struct Place {
     pub at: usize,
     pub regs: Registers,

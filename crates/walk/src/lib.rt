@@ -13,7 +13,7 @@ use mos6502::Flow;
 use site::{Causes, Site};
 
 // Whose walk it is.
-#[derive(Drop)]
+#[derive(Clone, Copy)]
 pub enum Rule {
     Span,
     Diagnosis,
@@ -21,7 +21,7 @@ pub enum Rule {
 }
 
 // What a site does to the path that meets it.
-#[derive(Drop)]
+#[derive(Clone, Copy)]
 pub enum Step {
     Ends,
     Refuses,
@@ -30,7 +30,7 @@ pub enum Step {
 }
 
 // How a walk ended, and where.
-#[derive(Drop)]
+#[derive(Clone, Copy)]
 pub enum End {
     Finished,
     Refused(u16),

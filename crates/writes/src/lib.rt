@@ -4,7 +4,7 @@ ghost use Rattle.std.specs.Prelude.{◌≡◌};
 ghost use Rattle.writes.specs.Writes.{manual_writes, width_at, place_of};
 
 // What one instruction writes to memory, outside zero page and the stack.
-#[derive(Drop)]
+#[derive(Clone, Copy)]
 pub enum Wr {
     None,
     // One byte, at the absolute operand.
