@@ -1,6 +1,8 @@
 //! A set of 16-bit addresses: a map of 65,536 bits in 8,192 bytes, in place of the Rust's `BTreeSet<u16>`.
 //! An empty set is `[0u8; 8192]`.
 
+#![tactic(auto)]
+
 ghost use Rattle.std.specs.Prelude.{◌≡◌, ◌<◌, length};
 ghost use Rattle.address_set.specs.Map.{has, members, Inserted, Within};
 ghost use Rattle.address_set.specs.Next.{Next, Lowest};

@@ -1,5 +1,7 @@
 //! Runs the cases of 01's bench through the public calls, and writes what each call answers.
 
+#![tactic(auto)]
+
 ghost use Rattle.std.specs.Prelude.{◌+◌, ◌≤◌, length};
 
 use libc::STDOUT_FILENO;

@@ -1,5 +1,7 @@
 //! Why an instruction is a refused site.
 
+#![tactic(auto)]
+
 ghost use Rattle.std.specs.Prelude.{◌≡◌};
 ghost use Rattle.cause.specs.Cause.{number_of, cause_at, slug_of, padded, key_of};
 

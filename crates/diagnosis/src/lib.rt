@@ -1,5 +1,7 @@
 //! The diagnosis: every refusal of the walk, with its weight, instead of the first one.
 
+#![tactic(auto)]
+
 ghost use Rattle.std.specs.Prelude.{◌≡◌, ◌≤◌, length};
 ghost use Rattle.lists.specs.Lists.{scan};
 ghost use Rattle.mos6502.specs.Class.{manual_class};

@@ -1,5 +1,7 @@
 //! The smallest range that covers what is named: the pass over the addresses met that span and diagnosis share.
 
+#![tactic(auto)]
+
 ghost use Rattle.std.specs.Prelude.{◌≡◌, true, suc, ◌+◌, ◌-◌, ◌≤◌, ◌<◌};
 ghost use Rattle.lists.specs.Lists.{scan};
 ghost use Rattle.mos6502.specs.Class.{manual_class};

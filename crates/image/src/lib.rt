@@ -1,5 +1,7 @@
 //! An image in memory: which addresses are inside, what stands there, and where control goes on.
 
+#![tactic(auto)]
+
 ghost use Rattle.std.specs.Prelude.{◌≡◌, ◌+◌, ◌<◌, ◌≤◌, min, max, length};
 ghost use Rattle.image.specs.Image.{inside, byte_at, word_at, branch_target, stopped_sum};
 ghost use Rattle.image.specs.Answers.{place, next_of, wrapped_byte, sum_within, difference};

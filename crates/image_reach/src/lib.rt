@@ -1,5 +1,7 @@
 //! The face for other languages: span, diagnosis, stores and tracker as C functions on numbers and lists. Each answers as the plain call does.
 
+#![tactic(auto)]
+
 ghost use Rattle.std.specs.Prelude.{◌≡◌};
 ghost use Rattle.site.specs.declared.Reading.TheVariants.{Plain, Guarded};
 ghost use Rattle.span.specs.Answers.{number_of, values_of, end_number_of, end_value_of};

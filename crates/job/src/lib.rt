@@ -1,5 +1,7 @@
 //! The job file: load address, entries and image in one run of bytes.
 
+#![tactic(auto)]
+
 ghost use Rattle.std.specs.Prelude.{◌≡◌, ◌++◌, ◌+◌, ◌*◌, ◌≤◌, ◌<◌, length, drop};
 ghost use Rattle.job.specs.Written.{bytes16, bytes32, header_of, words_of, job_for, job_bytes, written_of, placed, job_in};
 ghost use Rattle.job.specs.Job.{word16, word32, headed, is_large, is_right, words_at, job_of, entries_in};

@@ -1,5 +1,7 @@
 //! Makes a job of an image on standard input: `makejob C000 C000 C123 < face.bin | reachreport`.
 
+#![tactic(auto)]
+
 ghost use Rattle.std.specs.Prelude.{◌≡◌, ◌≤◌, length, get_or};
 ghost use Rattle.makejob.specs.Words.{digit_of, mark_of, address_of, input_of};
 

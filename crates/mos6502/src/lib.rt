@@ -1,5 +1,7 @@
 //! What an opcode of the MOS 6502 is: how its operand is addressed, how long it is and where control goes on.
 
+#![tactic(auto)]
+
 ghost use Rattle.std.specs.Prelude.{◌≡◌};
 ghost use Rattle.mos6502.specs.Class.{length_of, manual_class};
 ghost use Rattle.mos6502.specs.Packed.{mode_at, flow_at, pack};

@@ -1,5 +1,7 @@
 //! The tests that come before any walk.
 
+#![tactic(auto)]
+
 ghost use Rattle.std.specs.Prelude.{◌≡◌};
 ghost use Rattle.opening.specs.Opening.{opening_of, all_inside};
 

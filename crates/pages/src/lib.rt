@@ -1,5 +1,7 @@
 //! Where a store through a pointer goes: what the tracker knows of the pointer, what the instructions met do with its high byte, and the pages between.
 
+#![tactic(auto)]
+
 ghost use Rattle.std.specs.Prelude.{◌≡◌, suc, ◌-◌, ◌<◌, length};
 ghost use Rattle.lists.specs.Lists.{scan};
 ghost use Rattle.address_set.specs.Map.{has};

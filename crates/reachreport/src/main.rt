@@ -1,5 +1,7 @@
 //! Reads a job from standard input to its end, and writes its report to standard output.
 
+#![tactic(auto)]
+
 use libc::{STDIN_FILENO, STDOUT_FILENO};
 use report::ReportAnswer;
 

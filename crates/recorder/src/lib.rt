@@ -1,5 +1,7 @@
 //! The records of a walk: which address, which cause, and what stands there.
 
+#![tactic(auto)]
+
 ghost use Rattle.std.specs.Prelude.{◌≡◌, suc, ◌-◌, ◌+◌, ◌≤◌, length};
 ghost use Rattle.lists.specs.Lists.{scan};
 ghost use Rattle.mos6502.specs.Class.{manual_class};

@@ -1,5 +1,7 @@
 //! A refusal's record, packed into 64 bits as 01 lays it out.
 
+#![tactic(auto)]
+
 ghost use Rattle.std.specs.Prelude.{◌≡◌, ◌≤◌};
 ghost use Rattle.records.specs.Packed.{flag, packed, address_of, cause_of, opcode_of, pointer_of, present_of, linear_of, walk_of, weight_of};
 

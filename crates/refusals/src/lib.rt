@@ -1,5 +1,7 @@
 //! The refusals of a diagnosis as structs, for callers who lend a slice of them.
 
+#![tactic(auto)]
+
 ghost use Rattle.std.specs.Prelude.{◌≡◌};
 ghost use Rattle.mos6502.specs.Class.{manual_class};
 ghost use Rattle.refusals.specs.Refusals.{refusal_of, Unpacks};

@@ -1,5 +1,7 @@
 //! Reads inputs from standard input, one after the other, and writes what every public call answers to each: one side of a comparison with the original.
 
+#![tactic(auto)]
+
 ghost use Rattle.std.specs.Prelude.{◌≡◌, ◌+◌, ◌*◌, ◌≤◌, length, take};
 ghost use Rattle.report.specs.Report.{Enough, EnoughStores};
 

@@ -1,5 +1,7 @@
 //! The report: what span, guarded span, diagnosis and stores answer to a job, as text in a lent buffer.
 
+#![tactic(auto)]
+
 ghost use Rattle.std.specs.Prelude.{[], ◌∷◌, ◌++◌, ◌≤◌, length, take};
 ghost use Rattle.cause.specs.Cause.{slug_of};
 ghost use Rattle.text.specs.Text.{hex_of, decimal_of, Put};

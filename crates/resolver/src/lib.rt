@@ -1,5 +1,7 @@
 //! Which zero-page bytes the instructions met write from an immediate, unambiguously: one pass for all 256.
 
+#![tactic(auto)]
+
 ghost use Rattle.std.specs.Prelude.{◌≡◌, suc, ◌-◌};
 ghost use Rattle.lists.specs.Lists.{scan};
 ghost use Rattle.image.specs.Image.{Lies};

@@ -1,5 +1,7 @@
 //! What stands at one address. This is the only place that says what a refused site is, and the only one that turns an operand into covered bytes.
 
+#![tactic(auto)]
+
 ghost use Rattle.std.specs.Prelude.{◌≡◌, ◌+◌, ◌≤◌, ◌<◌, length};
 ghost use Rattle.mos6502.specs.Class.{manual_class};
 ghost use Rattle.image.specs.Image.{Lies, byte_at};

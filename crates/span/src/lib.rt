@@ -1,5 +1,7 @@
 //! The part of an image that calls can reach: the plain span, its end, and the guarded span.
 
+#![tactic(auto)]
+
 ghost use Rattle.mos6502.specs.Class.{manual_class};
 ghost use Rattle.site.specs.declared.Reading.TheVariants.{Plain, Guarded};
 ghost use Rattle.span.specs.Given.{Answers, EndAnswers};

@@ -1,5 +1,7 @@
 //! The store spans: what the reachable stores of an image can cover, outside zero page and the stack.
 
+#![tactic(auto)]
+
 ghost use Rattle.std.specs.Prelude.{◌≡◌, ◌++◌, ℕ, ◌+◌, ◌≤◌, length, take, drop};
 ghost use Rattle.lists.specs.Lists.{elem};
 ghost use Rattle.mos6502.specs.Class.{manual_class};

@@ -1,5 +1,7 @@
 //! Text in a lent buffer: bytes, hexadecimal and decimal numbers, each after what stands there already.
 
+#![tactic(auto)]
+
 ghost use Rattle.std.specs.Prelude.{◌≡◌, ◌+◌, ◌≤◌, ◌<◌, length, drop};
 ghost use Rattle.text.specs.Text.{hex_digit, hex_of, decimal_of, Put};
 

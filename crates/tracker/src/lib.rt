@@ -1,5 +1,7 @@
 //! What a linear scan knows of registers and zero page: immediate loads, and stores of what was loaded.
 
+#![tactic(auto)]
+
 ghost use Rattle.std.specs.Prelude.{◌≡◌, ◌+◌, ◌≤◌, ◌<◌, length};
 ghost use Rattle.tracker.specs.Track.{nothing, is_tracked, loaded, stored, zp_with, marks_with, value_in, state_of, tracked, Reached, Stands};
 

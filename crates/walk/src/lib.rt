@@ -1,5 +1,7 @@
 //! One walk for span, diagnosis and stores. It says which addresses were met and how it ended, and nothing else.
 
+#![tactic(auto)]
+
 ghost use Rattle.std.specs.Prelude.{◌≡◌, ◌≤◌, ◌<◌, set};
 ghost use Rattle.mos6502.specs.Class.{manual_class};
 ghost use Rattle.image.specs.Image.{Lies, inside};

@@ -1,5 +1,7 @@
 //! The weights: one walk for each entry, and a pass over the records found.
 
+#![tactic(auto)]
+
 ghost use Rattle.std.specs.Prelude.{◌≡◌, ℕ, length, get_or};
 ghost use Rattle.mos6502.specs.Class.{manual_class};
 ghost use Rattle.image.specs.Image.{Lies};

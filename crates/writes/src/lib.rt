@@ -1,5 +1,7 @@
 //! Which instructions write to memory, and how wide.
 
+#![tactic(auto)]
+
 ghost use Rattle.std.specs.Prelude.{◌≡◌};
 ghost use Rattle.writes.specs.Writes.{manual_writes, width_at, place_of};
 

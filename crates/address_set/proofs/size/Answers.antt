@@ -16,8 +16,7 @@ use Rattle.lists.proofs.Tests.{fail}
 use Rattle.address_set.specs.Map.{bit, has, members, Within}
 use Rattle.address_set.proofs.Bit.{bit_lt}
 use Rattle.address_set.proofs.Laws.{has_at}
-use Rattle.address_set.proofs.size.Statement.{statement}
-use Rattle.address_set.proofs.size.Tie as tie
+use Rattle.address_set.proofs.size.Goals as goal
 
 keep_length : (d a : ℕ) (l : List ℕ) → d < 2 → length (keep (eqb d 1) a l) ≡ d + length l
 keep_length zero a l h = omega arith
@@ -53,59 +52,15 @@ module _ {m : List ℕ} {first last : ℕ} (within : Within first last m) (i : �
       let e : i * 8 - 0 ≡ i * 8 = omega arith in
       scan_within (has m) 0 0 (i * 8) 65536 (omega arith) (omega arith) (omega arith) (λ b x y t. omega (arith, within.each b t)) ∙ ap (scan (has m) 0) e
 
--- n counts the members that the first i bytes tell of
-abbrev invariant-loop : tie.invariant-loop
-invariant-loop map first last s top n₀ i₀ n i = (i ≤ 8192) × (n ≡ length (scan (has map) 0 (i * 8)))
+pub loop-i-init : goal.loop-i-init
+loop-i-init c = (omega arith, sym (ap length (none_before c.requires _ (omega arith))))
 
-abbrev decreases-loop : tie.decreases-loop
-decreases-loop map first last s top n₀ i₀ n i = suc top - i
+pub overflow_add-n : goal.overflow_add-n
+overflow_add-n c = let m = c.args.map.now in
+    omega (arith, byte_more m c.loop-i.i (c.shared_slice_known-1.given c.loop-i.i).fits, scan_length (has m) 0 ((c.loop-i.i + 1) * 8))
 
-cast-top : tie.Need-overflow-cast-top invariant-loop decreases-loop
-cast-top c = omega arith
+pub loop-i-preserved : goal.loop-i-preserved
+loop-i-preserved c = omega (arith, byte_more c.args.map.now c.loop-i.i (c.shared_slice_known-1.given c.loop-i.i).fits)
 
-cast-i : tie.Need-overflow-cast-i invariant-loop decreases-loop
-cast-i c = omega arith
-
-loop-holds : tie.Need-loop-init invariant-loop decreases-loop
-loop-holds c = (omega arith, sym (ap length (none_before c.before.requires _ (omega arith))))
-
-shared-slice-read-n : tie.Need-shared-slice-read-n invariant-loop decreases-loop
-shared-slice-read-n c = omega arith
-
-add-n : tie.Need-overflow-add-n invariant-loop decreases-loop
-add-n c =
-    let l = c.before.before in
-    let m = l.before.before.args.map.now in
-    omega (arith, byte_more m l.loop.i (c.shared-slice-known.given l.loop.i).fits, scan_length (has m) 0 ((l.loop.i + 1) * 8))
-
-add-i : tie.Need-overflow-add-i invariant-loop decreases-loop
-add-i c = omega arith
-
-loop-less : tie.Need-loop-smaller invariant-loop decreases-loop
-loop-less c = omega arith
-
-loop-again : tie.Need-loop-preserved invariant-loop decreases-loop
-loop-again c =
-    let l = c.before.before in
-    omega (arith, byte_more l.before.before.args.map.now l.loop.i (c.shared-slice-known.given l.loop.i).fits)
-
-returns : tie.Need-returns invariant-loop decreases-loop
-returns c =
-    let l = c.before in
-    l.loop.invariant.1 ∙ sym (ap length (none_after l.before.before.requires l.loop.i (omega arith) l.loop.invariant.0))
-
-pub size-spec : {M : Type 1} → statement M
-size-spec =
-    tie.close
-    (tie.spec
-    invariant-loop
-    decreases-loop
-    cast-top
-    cast-i
-    loop-holds
-    shared-slice-read-n
-    add-n
-    add-i
-    loop-less
-    loop-again
-    returns)
+pub returns : goal.returns
+returns c = c.loop-i.invariant.1 ∙ sym (ap length (none_after c.requires c.loop-i.i (omega arith) c.loop-i.invariant.0))

@@ -12,8 +12,7 @@ use lib.ListN.{length, get_or, set, length-set}
 use lib.Seq.{get_or-set_same, get_or-set_other}
 use Rattle.address_set.specs.Map.{bit, has, Inserted}
 use Rattle.address_set.proofs.Bit.{bit_lt, set_here, set_other}
-use Rattle.address_set.proofs.insert.Statement.{statement}
-use Rattle.address_set.proofs.insert.Tie as tie
+use Rattle.address_set.proofs.insert.Goals as goal
 
 -- a digit is 0 where it is not 1
 zero_or_one : (d : ℕ) → d < 2 → eqb d 0 ≡ not (eqb d 1)
@@ -44,31 +43,5 @@ module _ (m : List ℕ) (a : ℕ) (h : a / 8 < length m) where
     fresh = zero_or_one _ (bit_lt (get_or m (a / 8) 0) (a % 8));
   }
 
-cast-i : tie.Need-overflow-cast-i
-cast-i c = search rules
-
-slice-read-x : tie.Need-slice-read-x
-slice-read-x c = search rules
-
-cast-s : tie.Need-overflow-cast-s
-cast-s c = search rules
-
-shl-s : tie.Need-overflow-shl-s
-shl-s c = search rules
-
-slice-write-s : tie.Need-slice-write-s
-slice-write-s c = search rules
-
-cast-result : tie.Need-overflow-cast-result
-cast-result c = search rules
-
-shr-result : tie.Need-overflow-shr-result
-shr-result c = search rules
-
-returns : tie.Need-returns
-returns c = inserted c.before.before.args.map.now c.before.before.args.a (omega arith)
-
-pub insert-spec : {M : Type 1} → statement M
-insert-spec =
-    tie.close
-    (tie.spec cast-i slice-read-x cast-s shl-s slice-write-s cast-result shr-result returns)
+pub returns : goal.returns
+returns c = inserted c.args.map.now c.args.a (omega arith)

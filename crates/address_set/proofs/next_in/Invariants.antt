@@ -1,0 +1,19 @@
+-- What each turn of `address_set::next_in` keeps.
+use mathlib.Core.Path.{◌≡◌, ap, ◌∙◌}
+use mathlib.Core.Bool.{false}
+use mathlib.Core.List.{List}
+use Prim.Native.Nat.{ℕ, suc, ◌+◌, ◌-◌, ◌*◌, ◌≤◌, ◌<◌}
+use native.Mathlib.Decide.{dec_lt}
+use native.Mathlib.Omega.{arith}
+use lib.ListN.{get_or}
+use Rattle.address_set.specs.Map.{has}
+use Rattle.address_set.specs.Next.{Free, Least, Lowest}
+use Rattle.address_set.proofs.Laws.{has_at}
+use Rattle.address_set.proofs.next_in.Given as goal
+
+-- the place that it looks at is s of the byte i
+abbrev pub invariant-loop-i : goal.invariant-loop-i
+invariant-loop-i l = (l.s < 8) × (l.from ≤ l.i * 8 + l.s) × Free l.map l.from (l.i * 8 + l.s)
+
+abbrev pub decreases-loop-i : goal.decreases-loop-i
+decreases-loop-i l = suc l.end - l.i
