@@ -1,0 +1,56 @@
+-- `job::put_entries` meets its contract. The loop's invariant: the first i entries stand behind the header, and the other bytes are as they were.
+use mathlib.Core.Path.{◌≡◌, ap, ◌∙◌}
+use mathlib.Core.List.{List, []}
+use Prim.Native.Nat.{ℕ, ◌+◌, ◌*◌, ◌-◌, ◌≤◌, ◌<◌}
+use native.Mathlib.Omega.{arith}
+use lib.ListN.{length, get_or, take}
+use lib.Seq.{length-take-le, take-length, paste-zero}
+use borrow.Author.Rules.{rules}
+use Rattle.job.specs.Written.{bytes16, words_of, placed}
+use Rattle.job.proofs.Placing.{placed_length, placed_next, words_of_length, words_of_more}
+use Rattle.job.proofs.put_entries.Goals as goal
+
+-- the first i entries are put
+module _ (out entries : List ℕ) (i : ℕ) (room : 16 + 2 * length entries ≤ length out) (h : i ≤ length entries) where
+  put : length (words_of (take i entries)) ≡ 2 * i
+  put = words_of_length (take i entries) ∙ rw (length-take-le i entries h)
+
+  kept : length (placed out 16 (words_of (take i entries))) ≡ length out
+  kept = placed_length out 16 (words_of (take i entries)) (omega (arith, put))
+
+  one_more : {now now' : List ℕ} → i < length entries → now ≡ placed out 16 (words_of (take i entries))
+      → now' ≡ placed now (16 + 2 * i) (bytes16 (get_or entries i 0)) → now' ≡ placed out 16 (words_of (take (i + 1) entries))
+  one_more k first second =
+      rw (words_of_more entries i k)
+      (placed_next out 16 (words_of (take i entries)) (omega (arith, put)) (16 + 2 * i) _ (omega (arith, put)) first second)
+
+pub loop-i-init : goal.loop-i-init
+unfolding words_of
+loop-i-init c = (omega arith, paste-zero c.args.out.now 16 [])
+
+pub put16-requires : goal.put16-requires
+put16-requires c = let args = c.args in
+    omega (arith, ap length c.loop-i.invariant.1 ∙ kept args.out.now args.entries.now c.loop-i.i (omega arith) (omega arith))
+
+pub loop-i-preserved : goal.loop-i-preserved
+loop-i-preserved c = let args = c.args in (
+  omega arith,
+  one_more
+      args.out.now
+      args.entries.now
+      c.loop-i.i
+      (omega arith)
+      (omega arith)
+      (omega arith)
+      c.loop-i.invariant.1
+      c.put16.ensures,
+)
+
+pub shape_of-out : goal.shape_of-out
+shape_of-out c = let args = c.args in
+    ap length c.loop-i.invariant.1 ∙ kept args.out.now args.entries.now c.loop-i.i (omega arith) (omega arith)
+
+pub returns : goal.returns
+returns c = let args = c.args in
+    let all : c.loop-i.i ≡ length args.entries.now = omega arith in
+    rw (all, take-length) at c.loop-i.invariant.1
