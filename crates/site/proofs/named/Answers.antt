@@ -4,13 +4,13 @@ use borrow.Author.Rules.{rules}
 use Rattle.site.proofs.named.Goals as goal
 
 pub returns-in-Nothing : goal.returns-in-Nothing
-returns-in-Nothing c = rw (c.if-whole.true, sym c.width_of_lem.ensures ∙ c.in-Nothing.is)
+returns-in-Nothing c = rw (c.if-whole.true, sym c.width_of.ensures ∙ c.in-Nothing.is)
 
 pub returns-in-Base : goal.returns-in-Base
-returns-in-Base c = c.base_run.ensures ∙ rw (c.if-whole.true, sym c.width_of_lem.ensures ∙ c.in-Base.is)
+returns-in-Base c = c.base_run.ensures ∙ rw (c.if-whole.true, sym c.width_of.ensures ∙ c.in-Base.is)
 
 pub returns-in-Page : goal.returns-in-Page
-returns-in-Page c = c.page_run.ensures ∙ rw (c.if-whole.true, sym c.width_of_lem.ensures ∙ c.in-Page.is)
+returns-in-Page c = c.page_run.ensures ∙ rw (c.if-whole.true, sym c.width_of.ensures ∙ c.in-Page.is)
 
 pub returns-else-whole : goal.returns-else-whole
 returns-else-whole c = rw c.if-whole.false

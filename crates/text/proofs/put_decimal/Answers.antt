@@ -18,7 +18,7 @@ module _ (c : After-spell-first) where
   number = take_all (20 - c.spell-first.result) digits (simp length-drop (omega arith)) ∙ c.spell-first.ensures.2
 
 pub put-requires : goal.put-requires
-put-requires c = rw (number (goal.at.put-requires c).After-digits-1) c.requires
+put-requires c = rw (number (goal.at.put-requires c).After-spell-first) c.requires
 
 pub returns : goal.returns
-returns c = rw (number (goal.at.returns c).After-digits-1) at c.put.ensures
+returns c = rw (number (goal.at.returns c).After-spell-first) at c.put.ensures
