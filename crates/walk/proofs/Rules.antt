@@ -61,6 +61,7 @@ Strict Stores = Unit {0}
 strict_refuses : (rule : Rule) → Strict rule → (f : Flow) (target : Address) → otherwise rule f target ≡ Refuses
 strict_refuses Span s f target = refl
 strict_refuses Stores s f target = refl
+strict_refuses Diagnosis s f target = elim s [ ]
 
 module _ (class : ℕ → Decoded) (image : List ℕ) (load last a : ℕ) where
   pub accepted_goes_on : (rule : Rule) → accepts rule (inside load last) (site_in class image load last a) ≡ true → step_in class rule image load last a ≢ refuses

@@ -22,7 +22,7 @@ use Rattle.extent.specs.declared.Extent.{Extent}
 use Rattle.extent.specs.Extent.{widen_site, is_skipped, over_sites}
 use Rattle.extent.proofs.extent_of.Invariants.{over}
 use Rattle.extent.proofs.extent_of.Goals as goal
-use Rattle.extent.proofs.extent_of.Goals.{At-loop-a, In-At, Joined-not-is_skipped, Start}
+use Rattle.extent.proofs.extent_of.Goals.{At-loop-a, In-At, Joined-not-is_skipped, Start, then-not-is_skipped, else-not-is_skipped}
 
 pub loop-a-init : goal.loop-a-init
 loop-a-init c = (omega arith, refl)
@@ -79,7 +79,10 @@ loop-a-smaller c = omega (arith, least (goal.at.loop-a-smaller c).In-At)
 step : (c : Joined-not-is_skipped) → c.if-not-is_skipped.e ≡ with_site (goal.at.Joined-not-is_skipped c).In-At
 step c =
     let skipped = sym c.is_skipped.ensures in
-    ⊎_elim (λ w. rw (w.3, w.2.ensures, w.1.ensures, skipped ∙ not-true _ w.0.taken)) (λ w. rw (w.1, skipped ∙ not-false _ w.0.left)) c.if-not-is_skipped.branch
+    elim c.if-not-is_skipped.branch [
+      then-not-is_skipped w ↦ rw (w.e-is, w.widen_site-e.ensures, w.site_at.ensures, skipped ∙ w.if-not-is_skipped.true)
+    | else-not-is_skipped w ↦ rw (w.e-is, skipped ∙ w.if-not-is_skipped.false)
+    ]
 
 pub loop-a-preserved : goal.loop-a-preserved
-loop-a-preserved c = (omega (arith, least (goal.at.loop-a-preserved c).In-At), rw (step c) (rest (goal.at.loop-a-preserved c).In-At ∙ (turn (goal.at.loop-a-preserved c).In-At).loop-a.invariant.1))
+loop-a-preserved c = (omega (arith, least (goal.at.loop-a-preserved c).In-At), rw (step (goal.at.loop-a-preserved c).Joined-not-is_skipped) (rest (goal.at.loop-a-preserved c).In-At ∙ (turn (goal.at.loop-a-preserved c).In-At).loop-a.invariant.1))

@@ -13,7 +13,7 @@ use Rattle.image.specs.Image.{inside}
 use Rattle.extent.specs.declared.Extent.{Extent}
 use Rattle.extent.specs.Extent.{widen, over_entries}
 use Rattle.extent.proofs.over_entries.Goals as goal
-use Rattle.extent.proofs.over_entries.Goals.{Joined-inside}
+use Rattle.extent.proofs.over_entries.Goals.{Joined-inside, then-inside, else-inside}
 
 pub loop-i-init : goal.loop-i-init
 loop-i-init c = (omega arith, refl)
@@ -27,17 +27,17 @@ module _ (load last : ℕ) (entries : List ℕ) (i : ℕ) (e : Extent) where
   unfolding over_entries
   rest h = rw (add-one, drop-cons entries i 0)
 
-step : (c : Joined-inside)
-    → let (goal.at.Joined-inside c).In-loop-i = (goal.at.Joined-inside c).In-loop-i in
-    let a = c.args in
-    c.if-inside.e ≡ with_entry a.bounds.load a.bounds.last a.entries.now c.loop-i.i c.loop-i.e
+step : (c : Joined-inside) → c.if-inside.e ≡ with_entry c.args.bounds.load c.args.bounds.last c.args.entries.now c.loop-i.i c.loop-i.e
 step c =
     let asked = sym c.inside.ensures in
-    ⊎_elim (λ w. w.2 ∙ w.1.ensures ∙ rw (asked ∙ w.0.taken)) (λ w. w.1 ∙ rw (asked ∙ w.0.left)) c.if-inside.branch
+    elim c.if-inside.branch [
+      then-inside w ↦ w.e-is ∙ w.widen-e.ensures ∙ rw (asked ∙ w.if-inside.true)
+    | else-inside w ↦ w.e-is ∙ rw (asked ∙ w.if-inside.false)
+    ]
 
 pub loop-i-preserved : goal.loop-i-preserved
 loop-i-preserved c = let now = c.loop-i in
-    (omega arith, rw (step c) (rest _ _ _ _ _ c.loop-i-test.true ∙ now.invariant.1))
+    (omega arith, rw (step (goal.at.loop-i-preserved c).Joined-inside) (rest _ _ _ _ _ c.loop-i-test.true ∙ now.invariant.1))
 
 pub returns : goal.returns
 unfolding over_entries

@@ -14,7 +14,7 @@ use Rattle.resolver.specs.Resolve.{argument_at, seen_after, resolve, unloaded, i
 use Rattle.resolver.proofs.Passing.{Passed, pass_store, pass_absent, pass_other, state_tells}
 use Rattle.resolver.proofs.resolve_all.Invariants.{onward}
 use Rattle.resolver.proofs.resolve_all.Goals as goal
-use Rattle.resolver.proofs.resolve_all.Goals.{After-loaded-regs, At-loop-a, In-At, Joined-is_store, Start}
+use Rattle.resolver.proofs.resolve_all.Goals.{After-loaded-regs, At-loop-a, In-At, Joined-is_store, Start, then-is_store+in-Value, then-is_store+in_default-argument, else-is_store}
 
 pub loop-a-init : goal.loop-a-init
 loop-a-init c = let blank = c.requires.1 in
@@ -69,22 +69,24 @@ overflow_add-from c = omega (arith, least (found c))
 pub loop-a-smaller : goal.loop-a-smaller
 loop-a-smaller c = omega (arith, least (found c))
 
--- where the ways past the store meet, the arrays have passed the instruction, and the argument is the one that was (goal.at.Joined-is_store c).After-argument_at-argument
+-- where the ways past the store meet, the arrays have passed the instruction, and the argument is the one that was read
 passed : (c : Joined-is_store) →
-    let known = (turn (goal.at.Joined-is_store c).In-At).loop-a in
+    let known = c.loop-a in
     Passed c.byte-op.result c.argument_at-argument.result known.regs known.states known.values c.if-is_store.states c.if-is_store.values
     × (c.if-is_store.argument ≡ c.argument_at-argument.result)
 passed c =
     let told = sym c.is_store.ensures in
-    ⊎_elim
-    (λ w. (rw (w.8, w.9) (pass_store (told ∙ w.0.taken) w.2.given.1 (rw w.4.ensures at w.7.ensures)), w.10 ∙ sym w.2.given.1))
-    (⊎_elim
-    (λ w. (rw (w.3, w.4) (pass_absent (told ∙ w.0.taken) w.2.given.1), w.5))
-    (λ w. (rw (w.1, w.2) (pass_other (told ∙ w.0.left)), w.3)))
-    c.if-is_store.branch
+    elim c.if-is_store.branch [
+      then-is_store+in-Value w ↦ (
+        rw (w.states-is, w.values-is) (pass_store (told ∙ w.if-is_store.true) w.in-Value.is (rw w.stored.ensures at w.note.ensures)),
+        w.argument-is ∙ sym w.in-Value.is,
+      )
+    | then-is_store+in_default-argument w ↦ (rw (w.states-is, w.values-is) (pass_absent (told ∙ w.if-is_store.true) w.in_default-argument.is), w.argument-is)
+    | else-is_store w ↦ (rw (w.states-is, w.values-is) (pass_other (told ∙ w.if-is_store.false)), w.argument-is)
+    ]
 
 pub loop-a-preserved : goal.loop-a-preserved
-loop-a-preserved c = let known = (turn (found c)).loop in
+loop-a-preserved c = let known = c.loop-a in
     let past = passed (goal.at.loop-a-preserved c).Joined-is_store in (
       omega (arith, least (found c)),
       past.0.size ∙ known.invariant.1,
