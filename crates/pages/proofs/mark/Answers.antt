@@ -5,20 +5,7 @@ use Rattle.tracker.specs.declared.Known.{Known}
 use Rattle.tracker.specs.declared.Known.TheVariants.{Value}
 use Rattle.resolver.specs.Resolve.{is_value}
 use Rattle.pages.specs.Surveys.{is_marked, Marks}
-use Rattle.pages.proofs.mark.Statement.{statement}
-use Rattle.pages.proofs.mark.Tie as tie
-
-enum-known-argument : tie.Need-enum-known-argument
-enum-known-argument c = search rules
-
-cast-m : tie.Need-overflow-cast-m
-cast-m c = search rules
-
-slice-write-m : tie.Need-slice-write-m
-slice-write-m c = search rules
-
-enum_told : tie.Need-enum-told
-enum_told c = search rules
+use Rattle.pages.proofs.mark.Goals as goal
 
 marked : {here : Bool} {argument : Known} {marks : List ℕ} {z : ℕ} → z < length marks → here ≡ true → argument ≡ Value z
     → Marks here argument marks (set marks z 1)
@@ -28,16 +15,11 @@ marked {here} {argument} {marks} {z} h told known = record { size = length-set m
     at y (yes e) = rw (told, known, e, get_or-set_same marks z 1 0 h, eq-eqb z z refl)
     at y (no n) = rw (told, known, get_or-set_other marks z y 1 0 n, ne_eqb z y (λ e. n (sym e)))
 
-returns : tie.Need-returns
-returns c = marked (omega arith) c.before.before.before.if1.true c.before.argument.given.1
+pub returns-in-Value : goal.returns-in-Value
+returns-in-Value c = marked (omega arith) c.if-here.true c.in-Value.is
 
-returns-2 : tie.Need-returns-2
-returns-2 c = record { size = refl; each = λ z. rw (c.before.before.if1.true, c.enum_told.given.1) }
+pub returns-in_default : goal.returns-in_default
+returns-in_default c = record { size = refl; each = λ z. rw (c.if-here.true, c.in_default.is) }
 
-returns-3 : tie.Need-returns-3
-returns-3 c = record { size = refl; each = λ z. rw c.if1.false }
-
-pub mark_spec : {M : Type 1} → statement M
-mark_spec =
-    tie.close
-    (tie.spec enum-known-argument cast-m slice-write-m enum_told returns returns-2 returns-3)
+pub returns-else-here : goal.returns-else-here
+returns-else-here c = record { size = refl; each = λ z. rw c.if-here.false }

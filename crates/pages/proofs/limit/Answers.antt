@@ -7,23 +7,7 @@ use Rattle.resolver.specs.declared.Seen.{Seen}
 use Rattle.resolver.specs.Resolve.{is_value, seen_at, Noted}
 use Rattle.pages.specs.Pages.{seen_also}
 use Rattle.pages.specs.Surveys.{Limits}
-use Rattle.pages.proofs.limit.Statement.{statement}
-use Rattle.pages.proofs.limit.Tie as tie
-
-enum-known-argument : tie.Need-enum-known-argument
-enum-known-argument c = search rules
-
-enum-known-compared : tie.Need-enum-known-compared
-enum-known-compared c = search rules
-
-note-requires : tie.Need-note-requires
-note-requires c κs = search rules
-
-enum_told : tie.Need-enum-told
-enum_told c = search rules
-
-enum-told-2 : tie.Need-enum-told-2
-enum-told-2 c = search rules
+use Rattle.pages.proofs.limit.Goals as goal
 
 module _ {lda : Bool} {argument compared : Known} {states values : List ℕ} where
   limited : {z v : ℕ} {states' values' : List ℕ} → lda ≡ true → argument ≡ Value z → compared ≡ Value v → Noted states values z (Value v) states' values'
@@ -42,31 +26,14 @@ module _ {lda : Bool} {argument compared : Known} {states values : List ℕ} whe
       same true s = refl
       same false s = refl
 
-returns : tie.Need-returns
-returns c =
-    let known = c.before.before.before.before in
-    let byte = known.before.before.before in
-    limited byte.before.before.if1.true byte.argument.given.1 known.compared.given.1 c.note.ensures
+pub returns-in-Value-compared : goal.returns-in-Value-compared
+returns-in-Value-compared c = limited c.if-lda.true c.in-Value.is c.in-Value-compared.is c.note.ensures
 
-returns-2 : tie.Need-returns-2
-returns-2 c = uncompared c.enum_told.given.1
+pub returns-in_default-compared : goal.returns-in_default-compared
+returns-in_default-compared c = uncompared c.in_default-compared.is
 
-returns-3 : tie.Need-returns-3
-returns-3 c = record { states_size = refl; values_size = refl; each = λ z. rw (c.before.before.if1.true, c.enum-told2.given.1) }
+pub returns-in_default : goal.returns-in_default
+returns-in_default c = record { states_size = refl; values_size = refl; each = λ z. rw (c.if-lda.true, c.in_default.is) }
 
-returns-4 : tie.Need-returns-4
-returns-4 c = record { states_size = refl; values_size = refl; each = λ z. rw c.if1.false }
-
-pub limit-spec : {M : Type 1} → statement M
-limit-spec =
-    tie.close
-    (tie.spec
-    enum-known-argument
-    enum-known-compared
-    note-requires
-    enum_told
-    enum-told-2
-    returns
-    returns-2
-    returns-3
-    returns-4)
+pub returns-else-lda : goal.returns-else-lda
+returns-else-lda c = record { states_size = refl; values_size = refl; each = λ z. rw c.if-lda.false }
