@@ -3,6 +3,7 @@ use Rattle.std.proofs.Common.{◌≡◌, ℕ, ◌+◌, ◌-◌, ◌<◌, Bool, t
 use Rattle.image.specs.declared.Checked.TheVariants.{Fits, Fails}
 use Rattle.pages.specs.Pages.{pages_from, Page}
 use Rattle.pages.proofs.page_limit.Goals as goal
+use Rattle.pages.proofs.page_limit.Goals.{else-n-gt0-via-then-n-gt0+else-dex, else-n-gt0-via-else-n-gt0}
 
 -- so many pages from a byte stands a byte
 page_from : (up : Bool) (page n : ℕ) → page < 256 → Page (pages_from up page n)
@@ -31,6 +32,9 @@ returns-in-Holds c = (
 
 pub returns-else-n-gt0 : goal.returns-else-n-gt0
 returns-else-n-gt0 c = (
-  rw (c.in-Never.is, c.in-Value.is) (⊎_elim (λ w. rw (lt-ltb _ _ w.0, w.1)) (λ w. rw (le-ltb _ _ w)) c.else-n-gt0.either),
+  rw (c.in-Never.is, c.in-Value.is) (elim c.else-n-gt0.branch [
+    else-n-gt0-via-then-n-gt0+else-dex w ↦ rw (lt-ltb _ _ w.if-n-gt0.true, w.if-dex.false)
+  | else-n-gt0-via-else-n-gt0 w ↦ rw (le-ltb _ _ w.if-n-gt0.false)
+  ]),
   tt,
 )

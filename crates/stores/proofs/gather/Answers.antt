@@ -1,0 +1,97 @@
+-- `stores::gather` meets its contract. The loop's invariant: the records of the members below `from` fill the first n slots, none of them is bounded by nothing, and
+-- the tracker, which stands no further than `from`, can go on to every later site.
+use mathlib.Core.Path.{◌≡◌, refl, sym, ap, ◌∙◌}
+use mathlib.Core.Bool.{Bool, ◌||◌}
+use mathlib.Core.List.{List, ◌++◌}
+use Prim.Native.Nat.{ℕ, suc, ◌+◌, ◌-◌, ◌≤◌}
+use native.Mathlib.Omega.{arith}
+use lib.ListN.{length, length-append}
+use borrow.Author.Rules.{rules}
+use Rattle.lists.proofs.Filling.{Filled, filled_none, filled_length, filled_count, filled_all, filled_room}
+use Rattle.mos6502.specs.Class.{manual_class}
+use Rattle.image.specs.declared.Bounds.{Bounds}
+use Rattle.writes.specs.Writes.{manual_writes}
+use Rattle.address_set.specs.Next.{Least}
+use Rattle.address_set.proofs.Laws.{found_least}
+use Rattle.tracker.specs.Track.{nothing, Reached, state_of}
+use Rattle.tracker.proofs.Passage.{reached_start}
+use Rattle.pages.specs.declared.StoreSpan.{StoreSpan}
+use Rattle.pages.proofs.Members.{members_from, any_end}
+use Rattle.stores.specs.Stores.{store_at, is_anywhere, records_of, unbounded, records_over}
+use Rattle.stores.proofs.Gathering.{records_few, records_next, unbounded_next, records_end, filled_put, store_is}
+use Rattle.stores.proofs.gather.Invariants.{stores, records_from_here, unbounded_from, module, a, turn, start, least, asked, site, found}
+use Rattle.stores.proofs.gather.Goals as goal
+use Rattle.stores.proofs.gather.Goals.{After-pointer_in-p, After-site_at-s, After-slice_known-in-loop-a-1, After-store_of-store, At-loop-a, In-At, Start}
+
+pub loop-a-init : goal.loop-a-init
+unfolding nothing
+loop-a-init c = rw (c.start-place.ensures.0, c.start-place.ensures.1) (omega arith, filled_none _ _, refl, reached_start _, omega arith)
+
+-- all records fit
+fits : (c : Start)
+    → length (records_from_here c.args.image.now c.args.bounds c.args.map.now c.args.bounds.load) ≤ length c.args.found.now
+fits c =
+    omega (
+      arith,
+      c.requires.2,
+      records_few (stores c.args.image.now c.args.bounds c.args.map.now) (members_from c.args.map.now c.args.bounds.last c.args.bounds.load),
+    )
+
+pub shape_of-found-in_default : goal.shape_of-found-in_default
+shape_of-found-in_default c = filled_length c.loop-a.invariant.1 (fits (goal.at.shape_of-found-in_default c).Start)
+
+pub returns-in_default : goal.returns-in_default
+returns-in_default c = let known = c.loop-a.invariant in
+    let none_left = records_end _ _ _ _ c.next_in.ensures c.in_default.is in
+    let count = filled_count known.1 none_left in
+    (sym known.2 ∙ any_end _ _ _ c.next_in.ensures _ c.in_default.is, count, filled_all known.1 none_left ∙ rw (← count))
+
+pub overflow_sub-a : goal.overflow_sub-a
+overflow_sub-a c = omega (arith, least c)
+
+pub overflow_cast-a : goal.overflow_cast-a
+overflow_cast-a c = omega (arith, least c)
+
+pub advance-place-requires : goal.advance-place-requires
+advance-place-requires c = (c.loop-a.invariant.3, omega (arith, least (goal.at.advance-place-requires c).In-At, c.loop-a.invariant.4), omega (arith, least (goal.at.advance-place-requires c).In-At, c.requires.0))
+
+pub site_at-s-requires : goal.site_at-s-requires
+site_at-s-requires c = (c.requires.0, omega (arith, least (goal.at.site_at-s-requires c).In-At), omega (arith, least (goal.at.site_at-s-requires c).In-At))
+
+pub shape_of-found-then-is_anywhere : goal.shape_of-found-then-is_anywhere
+shape_of-found-then-is_anywhere c = let here = found (goal.at.shape_of-found-then-is_anywhere c).After-store_of-store in
+    filled_length (turn here).loop.invariant.1 (fits (start here))
+
+pub returns-then-is_anywhere : goal.returns-then-is_anywhere
+returns-then-is_anywhere c = sym (turn (found (goal.at.returns-then-is_anywhere c).After-store_of-store)).loop.invariant.2 ∙ unbounded_here (goal.at.returns-then-is_anywhere c).After-store_of-store ∙ rw (← c.is_anywhere.ensures, c.if-is_anywhere.true)
+
+pub put-n-requires : goal.put-n-requires
+put-n-requires c = let here = found (goal.at.put-n-requires c).After-store_of-store in
+    omega (arith, filled_room (turn here).loop.invariant.1 (fits (start here)), simp length-append at (ap length (records_here (goal.at.put-n-requires c).After-store_of-store)))
+
+-- from a turn's end, where the store was put together
+abbrev put-together : After-slice_known-in-loop-a-1 → After-store_of-store
+put-together c = (goal.at.After-slice_known-in-loop-a-1 c).After-store_of-store
+
+pub overflow_cast-from-in-loop-a : goal.overflow_cast-from-in-loop-a
+overflow_cast-from-in-loop-a c = let here = found (put-together c) in
+    omega (arith, least here, (start here).pre.0)
+
+pub overflow_add-from : goal.overflow_add-from
+overflow_add-from c = let here = found (put-together c) in
+    omega (arith, least here, (start here).pre.0)
+
+pub loop-a-smaller : goal.loop-a-smaller
+loop-a-smaller c = omega (arith, least (found (put-together c)))
+
+pub loop-a-preserved : goal.loop-a-preserved
+loop-a-preserved c = let here = found (put-together c) in
+    let known = (turn here).loop.invariant in
+    let bounded = sym c.is_anywhere.ensures ∙ c.if-is_anywhere.false in
+    let advanced = c.advance-place.ensures in (
+      omega (arith, least here),
+      filled_put known.1 (records_here (put-together c)) c.put-n.ensures,
+      sym (unbounded_here (put-together c) ∙ rw bounded) ∙ known.2,
+      advanced.reached,
+      omega (arith, advanced.by),
+    )
