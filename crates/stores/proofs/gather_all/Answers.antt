@@ -20,8 +20,4 @@ pub note_limits-requires : goal.note_limits-requires
 note_limits-requires c = (blank, length-replicate {A = ℕ} 256 0)
 
 pub gather-requires : goal.gather-requires
-gather-requires c = let limits = last-pass.before in
-    let down = limits.before.before.before in
-    let up = down.before.before in
-    let start = up.before.before.before.before in
-    (start.requires.0, surveyed _ _ _ _ up.mark-operands.ensures down.mark-operands2.ensures limits.note-limits.ensures last-pass.is-met.ensures start.requires.1, start.requires.2)
+gather-requires c = (c.requires.0, surveyed _ _ _ _ c.mark_operands.ensures c.mark_operands-2.ensures c.note_limits.ensures c.is_met-dex.ensures c.requires.1, c.requires.2)

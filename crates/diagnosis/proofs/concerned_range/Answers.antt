@@ -6,26 +6,16 @@ use Rattle.lists.proofs.Sets.{all_below}
 use Rattle.lists.proofs.Tests.{pass, passed}
 use Rattle.image.proofs.Inside.{inside_bounds}
 use Rattle.opening.proofs.First.{all_inside_mem}
-use Rattle.diagnosis.proofs.concerned_range.Statement.{statement}
-use Rattle.diagnosis.proofs.concerned_range.Tie as tie
+use Rattle.diagnosis.proofs.concerned_range.Goals as goal
 
-all-inside-requires : tie.Need-all-inside-requires
-all-inside-requires c κs = search rules
-
-returns : tie.Need-returns
-returns c =
-    let a = c.before.before.before.args in
-    let all = sym c.before.all_inside.ensures ∙ c.if1.true in
+pub returns-then-all_inside : goal.returns-then-all_inside
+returns-then-all_inside c = let a = c.args in
+    let all = sym c.all_inside.ensures ∙ c.if-all_inside.true in
     record {
       image = (omega arith, omega arith);
       each = λ e k. inside_bounds a.bounds.load a.bounds.last e (pass _ (all_inside_mem a.bounds.load a.bounds.last a.entries.now (passed all) e k));
     }
 
-returns-2 : tie.Need-returns-2
-returns-2 c =
-    let b = c.before.before in
-    let words = all_below b.before.args.entries.now 65536 (λ i. (b.shared-slice-known.given i).fits) in
+pub returns : goal.returns
+returns c = let words = all_below c.args.entries.now 65536 (λ i. (c.shared_slice_known-1.given i).fits) in
     record { image = (omega arith, omega arith); each = λ e k. (omega arith, omega (arith, words e k)) }
-
-pub concerned-range-spec : {M : Type 1} → statement M
-concerned-range-spec = tie.close (tie.spec all-inside-requires returns returns-2)

@@ -1,0 +1,25 @@
+-- `diagnosis::add_outside` meets its contract: with the entries from i on, the map has what it is to have in the end.
+use mathlib.Core.Path.{refl, sym, ◌∙◌}
+use mathlib.Core.Logic.{⊎_elim}
+use Prim.Native.Nat.{◌≤◌, ◌-◌}
+use native.Mathlib.Omega.{arith}
+use lib.ListN.{length}
+use borrow.Author.Rules.{rules}
+use borrow.Author.Tests.{not-true, not-false}
+use Rattle.diagnosis.proofs.Adding.{Adding, added_inside, added_outside, added_all}
+use Rattle.diagnosis.proofs.add_outside.Goals as goal
+
+pub loop-i-init : goal.loop-i-init
+loop-i-init c = (omega arith, record { each = λ a. refl })
+
+pub loop-i-preserved : goal.loop-i-preserved
+loop-i-preserved c = (
+  omega arith,
+  ⊎_elim
+      (λ w. rw w.3 (added_outside c.loop-i.invariant.1 c.loop-i-test.true (sym c.inside.ensures ∙ not-true _ w.0.taken) w.2.ensures))
+      (λ w. rw w.1 (added_inside c.loop-i.invariant.1 c.loop-i-test.true (sym c.inside.ensures ∙ not-false _ w.0.left)))
+      c.if-not-inside.branch,
+)
+
+pub returns : goal.returns
+returns c = added_all c.loop-i.invariant.1 c.loop-i-test.false
