@@ -29,7 +29,7 @@ module _ (load last e : ℕ) (rest : List ℕ) where
   inside_adds_none i a = by (ℕ_discrete a e)
     where
       by : Dec (a ≡ e) → is_outside load last (e ∷ rest) a ≡ is_outside load last rest a
-      by (yes q) = rw (q, i, and-false (eqb e e || elem e rest), and-false (elem e rest))
+      by (yes q) = rw (q, i, eq-eqb e e refl, and-false (elem e rest))
       by (no n) = rw (ne_eqb a e n)
 
   outside_adds_one : inside load last e ≡ false → {map map' : List ℕ} {new : Bool} → Inserted map e map' new

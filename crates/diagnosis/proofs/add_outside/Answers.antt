@@ -1,6 +1,5 @@
 -- `diagnosis::add_outside` meets its contract: with the entries from i on, the map has what it is to have in the end.
 use mathlib.Core.Path.{refl, sym, ◌∙◌}
-use mathlib.Core.Logic.{⊎_elim}
 use Prim.Native.Nat.{◌≤◌, ◌-◌}
 use native.Mathlib.Omega.{arith}
 use lib.ListN.{length}
@@ -8,6 +7,7 @@ use borrow.Author.Rules.{rules}
 use borrow.Author.Tests.{not-true, not-false}
 use Rattle.diagnosis.proofs.Adding.{Adding, added_inside, added_outside, added_all}
 use Rattle.diagnosis.proofs.add_outside.Goals as goal
+use Rattle.diagnosis.proofs.add_outside.Goals.{then-not-inside, else-not-inside}
 
 pub loop-i-init : goal.loop-i-init
 loop-i-init c = (omega arith, record { each = λ a. refl })
@@ -15,10 +15,10 @@ loop-i-init c = (omega arith, record { each = λ a. refl })
 pub loop-i-preserved : goal.loop-i-preserved
 loop-i-preserved c = (
   omega arith,
-  ⊎_elim
-      (λ w. rw w.3 (added_outside c.loop-i.invariant.1 c.loop-i-test.true (sym c.inside.ensures ∙ not-true _ w.0.taken) w.2.ensures))
-      (λ w. rw w.1 (added_inside c.loop-i.invariant.1 c.loop-i-test.true (sym c.inside.ensures ∙ not-false _ w.0.left)))
-      c.if-not-inside.branch,
+  elim c.if-not-inside.branch [
+    then-not-inside w ↦ rw w.map-is (added_outside c.loop-i.invariant.1 c.loop-i-test.true (sym c.inside.ensures ∙ w.if-not-inside.true) w.insert.ensures)
+  | else-not-inside w ↦ rw w.map-is (added_inside c.loop-i.invariant.1 c.loop-i-test.true (sym c.inside.ensures ∙ w.if-not-inside.false))
+  ],
 )
 
 pub returns : goal.returns
