@@ -5,6 +5,7 @@ use mathlib.Core.List.{List, [], ◌∷◌, ◌++◌, map}
 use Prim.Native.Nat.{ℕ}
 use native.Mathlib.Omega.{arith}
 use lib.ListN.{length, drop, length-map}
+use Rattle.image.specs.declared.Bounds.{Bounds}
 use Rattle.lists.specs.Lists.{scan}
 use Rattle.lists.proofs.Tests.{passed}
 use Rattle.mos6502.specs.Manual.{manual}
@@ -95,10 +96,10 @@ put_down image load entries slots {records = records} f e a =
     subst (λ (x : StoresAnswer). store_answers.Answers manual_class manual_writes image load entries slots (records ++ drop (length records) slots) x) e (rw f at a)
 
 is_ready : (image : List ℕ) (load : ℕ) (entries : List ℕ) → Opened image load entries → Ready image load entries
-is_ready image load entries o = by (opened_as image load entries refl o.0)
+is_ready image load entries o = by _ (opened_as image load entries refl o.0)
   where
-    by : Opens image load entries (At (record { load = load; last = last image load })) → Ready image load entries
-    by (ready r) = r
+    by : (b : Bounds) → Opens image load entries (At b) → Ready image load entries
+    by b (ready r) = r
 
 holds : (c : Case) → Computes c → Holds c
 holds (spans image load entries reading answer) s = rw s.1 at (span_proofs.computed manual_class reading image load entries 20 s.0)
