@@ -1,5 +1,4 @@
 -- The laws of those lists.
-pub mod Arms
 pub mod Tests
 pub mod Sets
 pub mod Scan

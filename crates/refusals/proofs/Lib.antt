@@ -1,6 +1,5 @@
 -- The theorems on the refusals as structs.
 pub mod Over
-pub mod Steps
 pub mod Fields
 pub mod First
 pub mod Into

@@ -36,17 +36,20 @@ pub loop-i-init : goal.loop-i-init
 loop-i-init c = (omega arith, omega arith, λ k x y. absurd (omega arith))
 
 pub returns-then-a-last : goal.returns-then-a-last
-returns-then-a-last c = let call = c.low_from-r in
+returns-then-a-last c =
+    let call = c.low_from-r in
     least c.args.map.now c.args.from c.loop-i.i c.loop-i.s call.result call.ensures c.loop-i.invariant.2
     c.args.last (omega arith) (omega arith) (omega arith)
 
 pub returns-then-r-lt8 : goal.returns-then-r-lt8
-returns-then-r-lt8 c = let call = c.low_from-r in
+returns-then-r-lt8 c =
+    let call = c.low_from-r in
     free_to c.args.map.now c.args.from c.loop-i.i c.loop-i.s call.result call.ensures c.loop-i.invariant.2
     (suc c.args.last) (omega arith) (omega arith)
 
 pub loop-i-preserved : goal.loop-i-preserved
-loop-i-preserved c = let call = c.low_from-r in
+loop-i-preserved c =
+    let call = c.low_from-r in
     let passed = free_to c.args.map.now c.args.from c.loop-i.i c.loop-i.s call.result call.ensures c.loop-i.invariant.2
     ((c.loop-i.i + 1) * 8) (omega arith) (omega arith) in
     (omega arith, omega arith, λ k x y. passed k x (omega arith))

@@ -56,11 +56,12 @@ pub loop-i-init : goal.loop-i-init
 loop-i-init c = (omega arith, sym (ap length (none_before c.requires _ (omega arith))))
 
 pub overflow_add-n : goal.overflow_add-n
-overflow_add-n c = let m = c.args.map.now in
-    omega (arith, byte_more m c.loop-i.i (c.shared_slice_known-1.given c.loop-i.i).fits, scan_length (has m) 0 ((c.loop-i.i + 1) * 8))
+overflow_add-n c =
+    let m = c.args.map.now in
+    omega (arith, byte_more m c.loop-i.i (c.type_inv.s c.loop-i.i).fits, scan_length (has m) 0 ((c.loop-i.i + 1) * 8))
 
 pub loop-i-preserved : goal.loop-i-preserved
-loop-i-preserved c = omega (arith, byte_more c.args.map.now c.loop-i.i (c.shared_slice_known-1.given c.loop-i.i).fits)
+loop-i-preserved c = omega (arith, byte_more c.args.map.now c.loop-i.i (c.type_inv.s c.loop-i.i).fits)
 
 pub returns : goal.returns
 returns c = c.loop-i.invariant.1 ∙ sym (ap length (none_after c.requires c.loop-i.i (omega arith) c.loop-i.invariant.0))

@@ -16,8 +16,8 @@ pub loop-i-preserved : goal.loop-i-preserved
 loop-i-preserved c = (
   omega arith,
   elim c.if-not-inside.branch [
-    then-not-inside w ↦ rw w.map-is (added_outside c.loop-i.invariant.1 c.loop-i-test.true (sym c.inside.ensures ∙ w.if-not-inside.true) w.insert.ensures)
-  | else-not-inside w ↦ rw w.map-is (added_inside c.loop-i.invariant.1 c.loop-i-test.true (sym c.inside.ensures ∙ w.if-not-inside.false))
+    | then-not-inside w ↦ rw w.map-is (added_outside c.loop-i.invariant.1 c.loop-i-test.true (sym c.inside.ensures ∙ w.if-not-inside.true) w.insert.ensures)
+    | else-not-inside w ↦ rw w.map-is (added_inside c.loop-i.invariant.1 c.loop-i-test.true (sym c.inside.ensures ∙ w.if-not-inside.false))
   ],
 )
 

@@ -9,7 +9,8 @@ use Rattle.opening.proofs.First.{all_inside_mem}
 use Rattle.diagnosis.proofs.concerned_range.Goals as goal
 
 pub returns-then-all_inside : goal.returns-then-all_inside
-returns-then-all_inside c = let a = c.args in
+returns-then-all_inside c =
+    let a = c.args in
     let all = sym c.all_inside.ensures ∙ c.if-all_inside.true in
     record {
       image = (omega arith, omega arith);
@@ -17,5 +18,6 @@ returns-then-all_inside c = let a = c.args in
     }
 
 pub returns : goal.returns
-returns c = let words = all_below c.args.entries.now 65536 (λ i. (c.shared_slice_known-1.given i).fits) in
+returns c =
+    let words = all_below c.args.entries.now 65536 (λ i. (c.type_inv.entries i).fits) in
     record { image = (omega arith, omega arith); each = λ e k. (omega arith, omega (arith, words e k)) }

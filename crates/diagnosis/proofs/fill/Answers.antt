@@ -22,5 +22,6 @@ slice_bounds-fill_weights-end-2 c = sym (length-take-le _ _ (omega arith))
 
 pub returns : goal.returns
 unfolding byte_at
-returns c = let a = c.args in
-    fills _ _ _ _ _ _ (λ x. (c.shared_slice_known-1.given (x - a.bounds.load)).fits) c.requires.2 c.write_records.ensures c.fill_weights.ensures
+returns c =
+    let a = c.args in
+    fills _ _ _ _ _ _ (λ x. (c.type_inv.image (x - a.bounds.load)).fits) c.requires.2 c.write_records.ensures c.fill_weights.ensures

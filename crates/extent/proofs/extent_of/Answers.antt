@@ -29,7 +29,8 @@ loop-a-init c = (omega arith, refl)
 
 pub returns-in_default : goal.returns-in_default
 unfolding over_sites
-returns-in_default c = let none_left = next_nothing _ _ _ c.next_in.ensures c.in_default.is in
+returns-in_default c =
+    let none_left = next_nothing _ _ _ c.next_in.ensures c.in_default.is in
     let all = rw (none_left, c.over_entries-e.ensures) at c.loop-a.invariant.1 in
     rw (c.min.ensures, all)
 
@@ -80,8 +81,8 @@ step : (c : Joined-not-is_skipped) → c.if-not-is_skipped.e ≡ with_site (goal
 step c =
     let skipped = sym c.is_skipped.ensures in
     elim c.if-not-is_skipped.branch [
-      then-not-is_skipped w ↦ rw (w.e-is, w.widen_site-e.ensures, w.site_at.ensures, skipped ∙ w.if-not-is_skipped.true)
-    | else-not-is_skipped w ↦ rw (w.e-is, skipped ∙ w.if-not-is_skipped.false)
+      | then-not-is_skipped w ↦ rw (w.e-is, w.widen_site-e.ensures, w.site_at.ensures, skipped ∙ w.if-not-is_skipped.true)
+      | else-not-is_skipped w ↦ rw (w.e-is, skipped ∙ w.if-not-is_skipped.false)
     ]
 
 pub loop-a-preserved : goal.loop-a-preserved

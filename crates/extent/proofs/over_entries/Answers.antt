@@ -31,12 +31,13 @@ step : (c : Joined-inside) → c.if-inside.e ≡ with_entry c.args.bounds.load c
 step c =
     let asked = sym c.inside.ensures in
     elim c.if-inside.branch [
-      then-inside w ↦ w.e-is ∙ w.widen-e.ensures ∙ rw (asked ∙ w.if-inside.true)
-    | else-inside w ↦ w.e-is ∙ rw (asked ∙ w.if-inside.false)
+      | then-inside w ↦ w.e-is ∙ w.widen-e.ensures ∙ rw (asked ∙ w.if-inside.true)
+      | else-inside w ↦ w.e-is ∙ rw (asked ∙ w.if-inside.false)
     ]
 
 pub loop-i-preserved : goal.loop-i-preserved
-loop-i-preserved c = let now = c.loop-i in
+loop-i-preserved c =
+    let now = c.loop-i in
     (omega arith, rw (step (goal.at.loop-i-preserved c).Joined-inside) (rest _ _ _ _ _ c.loop-i-test.true ∙ now.invariant.1))
 
 pub returns : goal.returns

@@ -15,6 +15,7 @@ bounds-out-n-2 c = simp length-set (omega arith)
 
 pub returns : goal.returns
 unfolding bytes16
-returns c = let v = c.args.value in
+returns c =
+    let v = c.args.value in
     let high : v / 256 % 256 ≡ v / 256 = omega arith in
     rw (add-one, high) (sets-eq (v % 256 ∷ v / 256 ∷ []) c.args.out.now c.args.n c.requires)

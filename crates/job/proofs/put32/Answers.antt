@@ -8,7 +8,8 @@ use Rattle.job.proofs.put32.Goals as goal
 
 pub returns : goal.returns
 unfolding bytes32
-returns c = let args = c.args in
+returns c =
+    let args = c.args in
     let low = bytes16 (args.value % 65536) in
     let two = bytes16_length (args.value % 65536) in
     placed_next args.out.now args.n low (omega arith) (args.n + 2) _ (omega arith) c.put16.ensures c.put16-2.ensures

@@ -29,7 +29,8 @@ unfolding words_of
 loop-i-init c = (omega arith, paste-zero c.args.out.now 16 [])
 
 pub put16-requires : goal.put16-requires
-put16-requires c = let args = c.args in
+put16-requires c =
+    let args = c.args in
     omega (arith, ap length c.loop-i.invariant.1 ∙ kept args.out.now args.entries.now c.loop-i.i (omega arith) (omega arith))
 
 pub loop-i-preserved : goal.loop-i-preserved
@@ -47,10 +48,12 @@ loop-i-preserved c = let args = c.args in (
 )
 
 pub shape_of-out : goal.shape_of-out
-shape_of-out c = let args = c.args in
+shape_of-out c =
+    let args = c.args in
     ap length c.loop-i.invariant.1 ∙ kept args.out.now args.entries.now c.loop-i.i (omega arith) (omega arith)
 
 pub returns : goal.returns
-returns c = let args = c.args in
+returns c =
+    let args = c.args in
     let all : c.loop-i.i ≡ length args.entries.now = omega arith in
     rw (all, take-length) at c.loop-i.invariant.1

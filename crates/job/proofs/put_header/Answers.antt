@@ -8,7 +8,8 @@ use Rattle.job.proofs.put_header.Goals as goal
 
 pub returns : goal.returns
 unfolding header_of bytes32 bytes16
-returns c = let out = c.args.out.now in
+returns c =
+    let out = c.args.out.now in
     let job = c.args.job in
     let load = bytes16 job.load in
     let count = load ++ bytes16 job.count in

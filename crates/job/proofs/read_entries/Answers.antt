@@ -24,13 +24,16 @@ unfolding words_at
 loop-i-init c = (omega arith, refl)
 
 pub bounds-slots-i : goal.bounds-slots-i
-bounds-slots-i c = let args = c.args in
+bounds-slots-i c =
+    let args = c.args in
     omega (arith, ap length c.loop-i.invariant.1 ∙ decoded_length args.bytes.now args.entries.now c.loop-i.i (omega arith))
 
 pub loop-i-preserved : goal.loop-i-preserved
-loop-i-preserved c = let args = c.args in
+loop-i-preserved c =
+    let args = c.args in
     (omega arith, rw (c.loop-i.invariant.1, c.word16.ensures) (one_more args.bytes.now args.entries.now c.loop-i.i (omega arith)))
 
 pub returns : goal.returns
-returns c = let all : c.loop-i.i ≡ c.args.count = omega arith in
+returns c =
+    let all : c.loop-i.i ≡ c.args.count = omega arith in
     rw all at c.loop-i.invariant.1

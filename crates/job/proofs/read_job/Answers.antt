@@ -36,15 +36,18 @@ pub returns-then-is_large : goal.returns-then-is_large
 returns-then-is_large c = (answer_9 (bytes (goal.at.returns-then-is_large c).After-header-job) (omega arith) c.header-job.ensures (sym c.is_large.ensures ∙ c.if-is_large.true), refl)
 
 pub is_right-requires : goal.is_right-requires
-is_right-requires c = let limits = small c.header-job.result (not_large c) in
+is_right-requires c =
+    let limits = small c.header-job.result (not_large c) in
     (omega arith, omega (arith, follows (goal.at.is_right-requires c).After-header-job))
 
 pub returns-then-not-is_right : goal.returns-then-not-is_right
-returns-then-not-is_right c = let wrong = sym c.is_right.ensures ∙ c.if-not-is_right.true in
+returns-then-not-is_right c =
+    let wrong = sym c.is_right.ensures ∙ c.if-not-is_right.true in
     (answer_10 (bytes (goal.at.returns-then-not-is_right c).After-header-job) (omega arith) c.header-job.ensures (not_large (goal.at.returns-then-not-is_right c).Else-is_large) wrong, refl)
 
 pub read_entries-requires : goal.read_entries-requires
-read_entries-requires c = let limits = small c.header-job.result (not_large (goal.at.read_entries-requires c).Else-is_large) in
+read_entries-requires c =
+    let limits = small c.header-job.result (not_large (goal.at.read_entries-requires c).Else-is_large) in
     (omega (arith, follows (goal.at.read_entries-requires c).After-header-job, whole (bytes (goal.at.read_entries-requires c).After-header-job) c.header-job.result (right (goal.at.read_entries-requires c).Else-not-is_right)), omega arith)
 
 pub returns : goal.returns

@@ -39,12 +39,14 @@ pub returns-then-out-needed : goal.returns-then-out-needed
 returns-then-out-needed c = (rw (not_large (goal.at.returns-then-out-needed c).Else-is_large, lt-ltb _ _ c.if-out-needed.true), refl)
 
 pub put_header-requires : goal.put_header-requires
-put_header-requires c = let kept = limits (goal.at.put_header-requires c).Else-is_large in
+put_header-requires c =
+    let kept = limits (goal.at.put_header-requires c).Else-is_large in
     (omega arith, omega arith, omega arith, omega arith)
 
 pub returns : goal.returns
 unfolding job_bytes
-returns c = let args = (start (goal.at.returns c).Else-is_large).args in
+returns c =
+    let args = (start (goal.at.returns c).Else-is_large).args in
     let header = header_of (job (goal.at.returns c).Else-is_large) in
     let words = words_of args.entries.now in
     let sixteen = header_length (job (goal.at.returns c).Else-is_large) in

@@ -8,6 +8,7 @@ use Rattle.mos6502.proofs.packed_class.Goals as goal
 
 pub returns : goal.returns
 unfolding manual_class manual
-returns c = let right-everywhere : Unit {0} = tt in
+returns c =
+    let right-everywhere : Unit {0} = tt in
     let in_table : c.args.op < 256 = search rules in
     rw entry

@@ -11,7 +11,8 @@ use Rattle.pages.proofs.mark_operands.Goals as goal
 use Rattle.pages.proofs.mark_operands.Goals.{After-mark, At-loop-a, In-At, Start}
 
 pub loop-a-init : goal.loop-a-init
-loop-a-init c = let blank = c.requires in
+loop-a-init c =
+    let blank = c.requires in
     (omega arith, blank.size, λ z. rw (blank.none z))
 
 or_none : (m : Bool) {rest : Bool} → rest ≡ false → (m || rest) ≡ m
@@ -19,7 +20,8 @@ or_none true e = refl
 or_none false e = e
 
 pub returns-in_default : goal.returns-in_default
-returns-in_default c = let known = c.loop-a in
+returns-in_default c =
+    let known = c.loop-a in
     record {
       size = known.invariant.1;
       each = λ z. sym (or_none _ (any_end _ _ _ c.next_in.ensures _ c.in_default.is)) ∙ known.invariant.2 z;

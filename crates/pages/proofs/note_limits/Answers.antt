@@ -14,12 +14,14 @@ use Rattle.pages.proofs.note_limits.Goals as goal
 use Rattle.pages.proofs.note_limits.Goals.{After-limit, At-loop-a, In-At, Start}
 
 pub loop-a-init : goal.loop-a-init
-loop-a-init c = let blank = c.requires.0 in
+loop-a-init c =
+    let blank = c.requires.0 in
     (omega arith, blank.size, c.requires.1, λ z. rw (blank.none z))
 
 pub returns-in_default : goal.returns-in_default
 unfolding limit_over
-returns-in_default c = let known = c.loop-a in
+returns-in_default c =
+    let known = c.loop-a in
     let none_left = next_nothing _ _ _ c.next_in.ensures c.in_default.is in
     record { states_size = known.invariant.1; values_size = known.invariant.2; each = λ z. rw none_left at (known.invariant.3 z) }
 
@@ -61,7 +63,8 @@ pub loop-a-smaller : goal.loop-a-smaller
 loop-a-smaller c = omega (arith, least (found c))
 
 pub loop-a-preserved : goal.loop-a-preserved
-loop-a-preserved c = let known = c.loop-a in
+loop-a-preserved c =
+    let known = c.loop-a in
     let now = c.limit.ensures in (
       omega (arith, least (found c)),
       now.states_size ∙ known.invariant.1,

@@ -33,8 +33,8 @@ returns-in-Holds c = (
 pub returns-else-n-gt0 : goal.returns-else-n-gt0
 returns-else-n-gt0 c = (
   rw (c.in-Never.is, c.in-Value.is) (elim c.else-n-gt0.branch [
-    else-n-gt0-via-then-n-gt0+else-dex w ↦ rw (lt-ltb _ _ w.if-n-gt0.true, w.if-dex.false)
-  | else-n-gt0-via-else-n-gt0 w ↦ rw (le-ltb _ _ w.if-n-gt0.false)
+    | else-n-gt0-via-then-n-gt0+else-dex w ↦ rw (lt-ltb _ _ w.if-n-gt0.true, w.if-dex.false)
+    | else-n-gt0-via-else-n-gt0 w ↦ rw (le-ltb _ _ w.if-n-gt0.false)
   ]),
   tt,
 )

@@ -12,11 +12,13 @@ use Rattle.recorder.proofs.count_pairs.Goals as goal
 use Rattle.recorder.proofs.count_pairs.Goals.{At-loop-a, In-At, Start}
 
 pub loop-a-init : goal.loop-a-init
-loop-a-init c = let args = c.args in
+loop-a-init c =
+    let args = c.args in
     omega (arith, ap length (pairs_all c.requires.1 args.image.now args.bounds.load args.bounds.last args.undecoded (omega arith)))
 
 pub returns-in_default : goal.returns-in_default
-returns-in_default c = let args = c.args in
+returns-in_default c =
+    let args = c.args in
     let none = pairs_end c.requires.1 (omega arith) _ c.next_in.ensures args.image.now args.bounds.load args.bounds.last args.undecoded c.in_default.is in
     omega (arith, ap length none)
 
@@ -50,7 +52,8 @@ pub loop-a-smaller : goal.loop-a-smaller
 loop-a-smaller c = omega (arith, least (goal.at.loop-a-smaller c).In-At)
 
 pub loop-a-preserved : goal.loop-a-preserved
-loop-a-preserved c = let args = c.args in
+loop-a-preserved c =
+    let args = c.args in
     let counted = ap length c.causes_at.ensures in
     let search = c.next_in.ensures in
     let fewer = pairs_fewer c.requires.1 (omega arith) _ search args.image.now args.bounds.load args.bounds.last args.undecoded c.in-At.is in

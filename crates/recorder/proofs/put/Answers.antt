@@ -30,13 +30,16 @@ pub bounds-slots-n-in-Two-2 : goal.bounds-slots-n-in-Two-2
 bounds-slots-n-in-Two-2 c = simp length-set (omega (arith, rw c.in-Two.is at c.requires))
 
 pub returns-in-Clear : goal.returns-in-Clear
-returns-in-Clear c = let told = c.in-Clear.is in
+returns-in-Clear c =
+    let told = c.in-Clear.is in
     rw told (by_stores [] (rw told at c.requires) (omega arith) refl)
 
 pub returns-in-One : goal.returns-in-One
-returns-in-One c = let told = c.in-One.is in
+returns-in-One c =
+    let told = c.in-One.is in
     rw (told, c.record_of.ensures) (by_stores _ (rw told at c.requires) refl refl)
 
 pub returns-in-Two : goal.returns-in-Two
-returns-in-Two c = let told = c.in-Two.is in
+returns-in-Two c =
+    let told = c.in-Two.is in
     rw (told, c.record_of-in-Two.ensures, c.record_of-in-Two-2.ensures, add-one) (by_stores _ (rw told at c.requires) refl refl)

@@ -27,7 +27,8 @@ use Rattle.recorder.proofs.write_records.Goals.{At-loop-a, In-At, Joined-inside,
 
 pub loop-a-init : goal.loop-a-init
 unfolding nothing
-loop-a-init c = let made = c.start-place.ensures in
+loop-a-init c =
+    let made = c.start-place.ensures in
     let args = c.args in
     let all_left = records_all c.requires.1 args.image.now args.bounds.load args.bounds.last (met args.bounds args.map.now) args.undecoded (omega arith) in
     rw (made.0, made.1, all_left) (filled_none _ _, reached_start _, omega arith)
@@ -41,7 +42,8 @@ pub shape_of-slots-in_default : goal.shape_of-slots-in_default
 shape_of-slots-in_default c = filled_length c.loop-a.invariant.0 (fits (goal.at.shape_of-slots-in_default c).Start)
 
 pub returns-in_default : goal.returns-in_default
-returns-in_default c = let none_left = records_end c.requires.1 (omega arith) _ c.next_in.ensures _ _ _ _ _ c.in_default.is in
+returns-in_default c =
+    let none_left = records_end c.requires.1 (omega arith) _ c.next_in.ensures _ _ _ _ _ c.in_default.is in
     record { after = rw length-map at (filled_all c.loop-a.invariant.0 none_left) }
 
 pub causes_at-causes-requires : goal.causes_at-causes-requires
@@ -87,10 +89,10 @@ ready : (c : Joined-inside)
 ready c =
     let test = sym c.inside.ensures in
     elim c.if-inside.branch [
-      then-inside w ↦ rw (w.zp-is, w.marks-is, w.place-is, w.facts-is)
-        (ready_inside (test ∙ w.if-inside.true) w.advance-place.ensures c.requires.2 w.site_at-s.ensures w.pair_known.ensures w.pair_known-then-inside.ensures)
-    | else-inside w ↦ rw (w.zp-is, w.marks-is, w.place-is, w.facts-is)
-        (ready_outside (test ∙ w.if-inside.false) refl c.loop-a.invariant.1 (omega (arith, least (goal.at.Joined-inside c).In-At, c.loop-a.invariant.2)))
+      | then-inside w ↦ rw (w.zp-is, w.marks-is, w.place-is, w.facts-is)
+          (ready_inside (test ∙ w.if-inside.true) w.advance-place.ensures c.requires.2 w.site_at-s.ensures w.pair_known.ensures w.pair_known-then-inside.ensures)
+      | else-inside w ↦ rw (w.zp-is, w.marks-is, w.place-is, w.facts-is)
+          (ready_outside (test ∙ w.if-inside.false) refl c.loop-a.invariant.1 (omega (arith, least (goal.at.Joined-inside c).In-At, c.loop-a.invariant.2)))
     ]
 
 -- the records that `put` writes come next

@@ -16,5 +16,6 @@ pub put-requires : goal.put-requires
 put-requires c = omega (arith, length-take-le c.args.n c.args.text.now c.requires)
 
 pub returns : goal.returns
-returns c = let size = length-take-le c.args.n c.args.text.now c.requires in
+returns c =
+    let size = length-take-le c.args.n c.args.text.now c.requires in
     (sym size, omega arith, c.put.ensures.after ∙ rw (zero-add, size))

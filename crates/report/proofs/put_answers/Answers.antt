@@ -45,7 +45,8 @@ put_extent-requires c = (
 )
 
 pub returns : goal.returns
-returns c = let all = all_put (spans_line (goal.at.returns c).After-write_extent-written) (guarded_line (goal.at.returns c).After-write_extent-written) (diag_text (goal.at.returns c).After-write_extent-written) (stores_text (goal.at.returns c).After-write_extent-written) (room (goal.at.returns c).After-write_extent-written) c.put_span-a.ensures c.put_span-b.ensures c.put_diag-c.ensures c.put_extent.ensures in
+returns c =
+    let all = all_put (spans_line (goal.at.returns c).After-write_extent-written) (guarded_line (goal.at.returns c).After-write_extent-written) (diag_text (goal.at.returns c).After-write_extent-written) (stores_text (goal.at.returns c).After-write_extent-written) (room (goal.at.returns c).After-write_extent-written) c.put_span-a.ensures c.put_span-b.ensures c.put_diag-c.ensures c.put_extent.ensures in
     record {
       fits = all.1;
       tells =

@@ -12,9 +12,11 @@ pub put_pointer-b-requires : goal.put_pointer-b-requires
 put_pointer-b-requires c = word_room (pointer_word c.args.r) 0x20 _ (rest_room (slug_of c.from_number-cause.result) 0x20 _ (rw (← c.cause_of.ensures, ← c.from_number-cause.ensures) at c.requires) c.put_slug-a.ensures)
 
 pub put_flags-requires : goal.put_flags-requires
-put_flags-requires c = let left = rest_room (slug_of c.from_number-cause.result) 0x20 _ (rw (← c.cause_of.ensures, ← c.from_number-cause.ensures) at c.requires) c.put_slug-a.ensures in
+put_flags-requires c =
+    let left = rest_room (slug_of c.from_number-cause.result) 0x20 _ (rw (← c.cause_of.ensures, ← c.from_number-cause.ensures) at c.requires) c.put_slug-a.ensures in
     rest_room (pointer_word c.args.r) 0x20 _ left c.put_pointer-b.ensures
 
 pub returns : goal.returns
-returns c = let left = rest_room (slug_of c.from_number-cause.result) 0x20 _ (rw (← c.cause_of.ensures, ← c.from_number-cause.ensures) at c.requires) c.put_slug-a.ensures in
+returns c =
+    let left = rest_room (slug_of c.from_number-cause.result) 0x20 _ (rw (← c.cause_of.ensures, ← c.from_number-cause.ensures) at c.requires) c.put_slug-a.ensures in
     rw (← c.cause_of.ensures, ← c.from_number-cause.ensures) (put_word (slug_of c.from_number-cause.result) 0x20 _ (rw (← c.cause_of.ensures, ← c.from_number-cause.ensures) at c.requires) c.put_slug-a.ensures (put_word (pointer_word c.args.r) 0x20 _ left c.put_pointer-b.ensures c.put_flags.ensures))

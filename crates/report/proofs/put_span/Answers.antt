@@ -11,7 +11,8 @@ pub put_hex-b-requires : goal.put_hex-b-requires
 put_hex-b-requires c = word_room (hex_of 4 c.in-Given.s.low) 0x20 _ (rest_room c.args.name.now 0x20 _ (rw c.in-Given.is at c.requires) c.put_word-a.ensures)
 
 pub put_hex-requires : goal.put_hex-requires
-put_hex-requires c = let left = rest_room c.args.name.now 0x20 _ (rw c.in-Given.is at c.requires) c.put_word-a.ensures in
+put_hex-requires c =
+    let left = rest_room c.args.name.now 0x20 _ (rw c.in-Given.is at c.requires) c.put_word-a.ensures in
     rest_room (hex_of 4 c.in-Given.s.low) 0x20 _ left c.put_hex-b.ensures
 
 pub put_none-requires : goal.put_none-requires
@@ -30,7 +31,8 @@ pub put_none-requires-in-Full : goal.put_none-requires-in-Full
 put_none-requires-in-Full c = rw c.in-Full.is at c.requires
 
 pub returns-in-Given : goal.returns-in-Given
-returns-in-Given c = let left = rest_room c.args.name.now 0x20 _ (rw c.in-Given.is at c.requires) c.put_word-a.ensures in
+returns-in-Given c =
+    let left = rest_room c.args.name.now 0x20 _ (rw c.in-Given.is at c.requires) c.put_word-a.ensures in
     rw c.in-Given.is (put_word c.args.name.now 0x20 _ (rw c.in-Given.is at c.requires) c.put_word-a.ensures (put_word (hex_of 4 c.in-Given.s.low) 0x20 _ left c.put_hex-b.ensures c.put_hex.ensures))
 
 pub returns-in-ImageEmpty : goal.returns-in-ImageEmpty

@@ -10,9 +10,11 @@ pub put_hex-b-requires : goal.put_hex-b-requires
 put_hex-b-requires c = word_room (hex_of 4 (c.args.r / 65536)) 0x20 _ (rest_room (ascii "W") 0x20 _ c.requires c.put_word-a.ensures)
 
 pub put_hex-requires : goal.put_hex-requires
-put_hex-requires c = let left = rest_room (ascii "W") 0x20 _ c.requires c.put_word-a.ensures in
+put_hex-requires c =
+    let left = rest_room (ascii "W") 0x20 _ c.requires c.put_word-a.ensures in
     rest_room (hex_of 4 (c.args.r / 65536)) 0x20 _ left c.put_hex-b.ensures
 
 pub returns : goal.returns
-returns c = let left = rest_room (ascii "W") 0x20 _ c.requires c.put_word-a.ensures in
+returns c =
+    let left = rest_room (ascii "W") 0x20 _ c.requires c.put_word-a.ensures in
     put_word (ascii "W") 0x20 _ c.requires c.put_word-a.ensures (put_word (hex_of 4 (c.args.r / 65536)) 0x20 _ left c.put_hex-b.ensures c.put_hex.ensures)

@@ -17,12 +17,14 @@ use Rattle.resolver.proofs.resolve_all.Goals as goal
 use Rattle.resolver.proofs.resolve_all.Goals.{After-loaded-regs, At-loop-a, In-At, Joined-is_store, Start, then-is_store+in-Value, then-is_store+in_default-argument, else-is_store}
 
 pub loop-a-init : goal.loop-a-init
-loop-a-init c = let blank = c.requires.1 in
+loop-a-init c =
+    let blank = c.requires.1 in
     (omega arith, blank.size, λ z. rw (blank.none z))
 
 pub returns-in_default : goal.returns-in_default
 unfolding resolve
-returns-in_default c = let known = c.loop-a in
+returns-in_default c =
+    let known = c.loop-a in
     let none_left = next_nothing _ _ _ c.next_in.ensures c.in_default.is in
     record {
       size = known.invariant.1;
@@ -77,16 +79,17 @@ passed : (c : Joined-is_store) →
 passed c =
     let told = sym c.is_store.ensures in
     elim c.if-is_store.branch [
-      then-is_store+in-Value w ↦ (
+      | then-is_store+in-Value w ↦ (
         rw (w.states-is, w.values-is) (pass_store (told ∙ w.if-is_store.true) w.in-Value.is (rw w.stored.ensures at w.note.ensures)),
         w.argument-is ∙ sym w.in-Value.is,
       )
-    | then-is_store+in_default-argument w ↦ (rw (w.states-is, w.values-is) (pass_absent (told ∙ w.if-is_store.true) w.in_default-argument.is), w.argument-is)
-    | else-is_store w ↦ (rw (w.states-is, w.values-is) (pass_other (told ∙ w.if-is_store.false)), w.argument-is)
+      | then-is_store+in_default-argument w ↦ (rw (w.states-is, w.values-is) (pass_absent (told ∙ w.if-is_store.true) w.in_default-argument.is), w.argument-is)
+      | else-is_store w ↦ (rw (w.states-is, w.values-is) (pass_other (told ∙ w.if-is_store.false)), w.argument-is)
     ]
 
 pub loop-a-preserved : goal.loop-a-preserved
-loop-a-preserved c = let known = c.loop-a in
+loop-a-preserved c =
+    let known = c.loop-a in
     let past = passed (goal.at.loop-a-preserved c).Joined-is_store in (
       omega (arith, least (found c)),
       past.0.size ∙ known.invariant.1,

@@ -10,7 +10,8 @@ pub returns-then-n-eq2 : goal.returns-then-n-eq2
 returns-then-n-eq2 c = c.byte.ensures ∙ rw (eq-eqb _ _ c.if-n-eq2.true)
 
 pub returns-then-n-eq3 : goal.returns-then-n-eq3
-returns-then-n-eq3 c = let a = c.args.a in
+returns-then-n-eq3 c =
+    let a = c.args.a in
     let second : a + 1 + 1 ≡ a + 2 = omega arith in
     c.word.ensures ∙ rw (second, ne_eqb _ _ c.if-n-eq2.false, eq-eqb _ _ c.if-n-eq3.true)
 

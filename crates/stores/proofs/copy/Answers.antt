@@ -21,17 +21,21 @@ pub loop-i-init : goal.loop-i-init
 loop-i-init c = (omega arith, refl)
 
 pub bounds-to-i : goal.bounds-to-i
-bounds-to-i c = let args = c.args in
+bounds-to-i c =
+    let args = c.args in
     omega (arith, ap length c.loop-i.invariant.1 ∙ copied_length args.from.now args.to.now c.loop-i.i (omega arith) (omega arith))
 
 pub loop-i-preserved : goal.loop-i-preserved
-loop-i-preserved c = let args = c.args in
+loop-i-preserved c =
+    let args = c.args in
     (omega arith, rw c.loop-i.invariant.1 (one_more args.from.now args.to.now c.loop-i.i (omega arith) (omega arith)))
 
 pub shape_of-to : goal.shape_of-to
-shape_of-to c = let args = c.args in
+shape_of-to c =
+    let args = c.args in
     ap length c.loop-i.invariant.1 ∙ copied_length args.from.now args.to.now c.loop-i.i (omega arith) (omega arith)
 
 pub returns : goal.returns
-returns c = let all : c.loop-i.i ≡ c.args.n = omega arith in
+returns c =
+    let all : c.loop-i.i ≡ c.args.n = omega arith in
     rw all at c.loop-i.invariant.1

@@ -41,7 +41,8 @@ pub shape_of-found-in_default : goal.shape_of-found-in_default
 shape_of-found-in_default c = filled_length c.loop-a.invariant.1 (fits (goal.at.shape_of-found-in_default c).Start)
 
 pub returns-in_default : goal.returns-in_default
-returns-in_default c = let known = c.loop-a.invariant in
+returns-in_default c =
+    let known = c.loop-a.invariant in
     let none_left = records_end _ _ _ _ c.next_in.ensures c.in_default.is in
     let count = filled_count known.1 none_left in
     (sym known.2 ∙ any_end _ _ _ c.next_in.ensures _ c.in_default.is, count, filled_all known.1 none_left ∙ rw (← count))
@@ -111,7 +112,8 @@ pub loop-a-smaller : goal.loop-a-smaller
 loop-a-smaller c = omega (arith, least (goal.at.loop-a-smaller c).In-At)
 
 pub loop-a-preserved : goal.loop-a-preserved
-loop-a-preserved c = let known = c.loop-a.invariant in
+loop-a-preserved c =
+    let known = c.loop-a.invariant in
     let bounded = sym c.is_anywhere.ensures ∙ c.if-is_anywhere.false in
     let advanced = c.advance-place.ensures in (
       omega (arith, least (goal.at.loop-a-preserved c).In-At),

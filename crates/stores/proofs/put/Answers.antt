@@ -21,13 +21,16 @@ pub bounds-found-n : goal.bounds-found-n
 bounds-found-n c = omega (arith, rw c.in-Bytes.is at c.requires)
 
 pub returns-in-Nothing : goal.returns-in-Nothing
-returns-in-Nothing c = let told = c.in-Nothing.is in
+returns-in-Nothing c =
+    let told = c.in-Nothing.is in
     rw told (by_stores Nothing (rw told at c.requires) (omega arith) refl)
 
 pub returns-in-Bytes : goal.returns-in-Bytes
-returns-in-Bytes c = let told = c.in-Bytes.is in
+returns-in-Bytes c =
+    let told = c.in-Bytes.is in
     rw told (by_stores (Bytes _ _) (rw told at c.requires) refl refl)
 
 pub returns-in-Anywhere : goal.returns-in-Anywhere
-returns-in-Anywhere c = let told = c.in-Anywhere.is in
+returns-in-Anywhere c =
+    let told = c.in-Anywhere.is in
     rw told (by_stores Anywhere (rw told at c.requires) (omega arith) refl)

@@ -70,11 +70,13 @@ pub returns-in-ImageEmpty : goal.returns-in-ImageEmpty
 returns-in-ImageEmpty c = (without_image _ _ _ (opened_at (goal.at.returns-in-ImageEmpty c).After-open c.in-ImageEmpty.is), refl)
 
 pub returns-in-NoEntries : goal.returns-in-NoEntries
-returns-in-NoEntries c = let told = without_entries _ _ _ (opened_at (goal.at.returns-in-NoEntries c).After-open c.in-NoEntries.is) in
+returns-in-NoEntries c =
+    let told = without_entries _ _ _ (opened_at (goal.at.returns-in-NoEntries c).After-open c.in-NoEntries.is) in
     (told.0, told.1, refl)
 
 pub returns-in-PastTop : goal.returns-in-PastTop
-returns-in-PastTop c = let told = above_top _ _ _ (opened_at (goal.at.returns-in-PastTop c).After-open c.in-PastTop.is) in
+returns-in-PastTop c =
+    let told = above_top _ _ _ (opened_at (goal.at.returns-in-PastTop c).After-open c.in-PastTop.is) in
     (told.0, told.1, told.2, refl)
 
 pub returns-in-Unbounded : goal.returns-in-Unbounded

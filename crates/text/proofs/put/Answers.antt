@@ -21,13 +21,15 @@ pub bounds-out-n : goal.bounds-out-n
 bounds-out-n c = omega (arith, copied_length (goal.at.bounds-out-n c).At-loop-i)
 
 pub loop-i-preserved : goal.loop-i-preserved
-loop-i-preserved c = let args = c.args in
+loop-i-preserved c =
+    let args = c.args in
     (omega arith, rw (c.loop-i.invariant.1, add-one) (paste-suc args.out.now args.n args.text.now c.loop-i.i 0 (omega arith) (omega arith)))
 
 pub shape_of-out : goal.shape_of-out
 shape_of-out c = copied_length (goal.at.shape_of-out c).At-loop-i
 
 pub returns : goal.returns
-returns c = let args = c.args in
+returns c =
+    let args = c.args in
     let all : c.loop-i.i ≡ length args.text.now = omega arith in
     record { next = ap (λ (k : ℕ). args.n + k) all; after = rw (all, take-length) at c.loop-i.invariant.1 }

@@ -26,7 +26,8 @@ pub loop-i-init : goal.loop-i-init
 loop-i-init c = (omega arith, refl, refl)
 
 pub loop-i-preserved : goal.loop-i-preserved
-loop-i-preserved c = let loop = c.loop-i in
+loop-i-preserved c =
+    let loop = c.loop-i in
     let n = c.args.n in
     let one : loop.i ≡ suc (loop.i - 1) = omega arith in (
       omega arith,
@@ -39,7 +40,8 @@ loop-i-preserved c = let loop = c.loop-i in
 
 pub returns : goal.returns
 unfolding hex_of
-returns c = let args = c.args in
+returns c =
+    let args = c.args in
     let size = hex_length args.width args.value in
     let none : c.loop-i.i ≡ 0 = omega arith in
     record { next = rw size; after = rw size (paste-zero c.loop-i.out args.n [] ∙ rw none at c.loop-i.invariant.2) }

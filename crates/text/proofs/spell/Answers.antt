@@ -51,10 +51,12 @@ loop-rest-init c = record {
 }
 
 pub returns-then-rest-lt10 : goal.returns-then-rest-lt10
-returns-then-rest-lt10 c = let loop = c.loop-rest in
+returns-then-rest-lt10 c =
+    let loop = c.loop-rest in
     let spelt = one_digit (goal.at.returns-then-rest-lt10 c).At-loop-rest in
     (simp length-set spelt.size, omega arith, spelt_first _ loop.digits (loop.first - 1) loop.rest spelt c.if-rest-lt10.true)
 
 pub loop-rest-preserved : goal.loop-rest-preserved
-loop-rest-preserved c = let loop = c.loop-rest in
+loop-rest-preserved c =
+    let loop = c.loop-rest in
     spelt_next _ loop.digits (loop.first - 1) loop.rest (one_digit (goal.at.loop-rest-preserved c).At-loop-rest) c.if-rest-lt10.false

@@ -40,10 +40,11 @@ pub outer-init : goal.outer-init
 outer-init c = (begins c.requires.1, omega arith)
 
 pub loop-pc-init : goal.loop-pc-init
-loop-pc-init c = let k = c.outer.invariant.0 in
+loop-pc-init c =
+    let k = c.outer.invariant.0 in
     elim c.if-waiting-gt0.branch [
-      then-waiting-gt0 w ↦ (rw (w.waiting-is, w.left-is, w.pc-is) (popped k w.if-waiting-gt0.true), omega arith, omega arith)
-    | else-waiting-gt0+else-left-eq0 w ↦ (rw (w.waiting-is, w.left-is, w.pc-is) (taken k w.if-waiting-gt0.false w.if-left-eq0.false), omega arith, omega arith)
+      | then-waiting-gt0 w ↦ (rw (w.waiting-is, w.left-is, w.pc-is) (popped k w.if-waiting-gt0.true), omega arith, omega arith)
+      | else-waiting-gt0+else-left-eq0 w ↦ (rw (w.waiting-is, w.left-is, w.pc-is) (taken k w.if-waiting-gt0.false w.if-left-eq0.false), omega arith, omega arith)
     ]
 
 pub outer-smaller-then-not-inside : goal.outer-smaller-then-not-inside
@@ -59,7 +60,8 @@ pub outer-preserved-then-not-insert : goal.outer-preserved-then-not-insert
 outer-preserved-then-not-insert c = (again c.loop-pc.invariant.0 c.insert.ensures (c.if-not-insert.true), omega arith)
 
 pub step_at-requires : goal.step_at-requires
-step_at-requires c = let b = inside_bounds _ _ _ (entered (goal.at.step_at-requires c).Else-not-inside) in
+step_at-requires c =
+    let b = inside_bounds _ _ _ (entered (goal.at.step_at-requires c).Else-not-inside) in
     (c.requires.0, b.0, b.1)
 
 pub outer-smaller : goal.outer-smaller

@@ -24,8 +24,8 @@ concerned c =
     let asked = sym c.inside.ensures in
     let walked = c.walk-end.ensures in
     elim c.if-not-inside.branch [
-      then-not-inside w ↦ rw w.map-is (entry_inserted walked _ (asked ∙ w.if-not-inside.true) w.insert.ensures)
-    | else-not-inside w ↦ rw w.map-is (entry_inside walked _ (asked ∙ w.if-not-inside.false))
+      | then-not-inside w ↦ rw w.map-is (entry_inserted walked _ (asked ∙ w.if-not-inside.true) w.insert.ensures)
+      | else-not-inside w ↦ rw w.map-is (entry_inside walked _ (asked ∙ w.if-not-inside.false))
     ]
 
 -- a list of one entry
@@ -36,8 +36,8 @@ single (x ∷ y ∷ l) h = absurd (omega arith)
 
 pub returns : goal.returns
 returns c = record {
-      end = as_end c.walk-end.result;
-      met = c.walk-end.ensures.met;
-      walk = rw (single c.args.entry.now c.requires.1) at c.walk-end.ensures.walk;
-      exact = rw (c.undecoded_of.ensures, fun_ext (concerned (goal.at.returns c).Joined-not-inside)) at c.raise_recorded.ensures;
-    }
+  end = as_end c.walk-end.result;
+  met = c.walk-end.ensures.met;
+  walk = rw (single c.args.entry.now c.requires.1) at c.walk-end.ensures.walk;
+  exact = rw (c.undecoded_of.ensures, fun_ext (concerned (goal.at.returns c).Joined-not-inside)) at c.raise_recorded.ensures;
+}

@@ -30,7 +30,8 @@ module _ (entries : List ℕ) (i : ℕ) (above : 0 < i) (within : i ≤ length e
   alone = let one : i - 1 + 1 - (i - 1) ≡ 1 = omega arith in rw (one, first)
 
 pub loop-i-preserved : goal.loop-i-preserved
-loop-i-preserved c = let now = c.loop-i in
+loop-i-preserved c =
+    let now = c.loop-i in
     let above : 0 < now.i = omega arith in
     (omega arith, rw (alone _ _ above now.invariant.0, ← first _ _ above now.invariant.0) at (filled_more c.count_entry.ensures now.invariant.1))
 

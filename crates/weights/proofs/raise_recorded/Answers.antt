@@ -38,15 +38,16 @@ step : (c : Joined-is_recorded)
 step c =
     let asked = sym (rw c.address_of.ensures at c.is_recorded.ensures) in
     elim c.if-is_recorded.branch [
-      then-is_recorded w ↦ rw (w.slots-is, w.heavier.ensures, asked, w.if-is_recorded.true)
-    | else-is_recorded w ↦ rw (w.slots-is, asked, w.if-is_recorded.false, raised_none, set-get_or)
+      | then-is_recorded w ↦ rw (w.slots-is, w.heavier.ensures, asked, w.if-is_recorded.true)
+      | else-is_recorded w ↦ rw (w.slots-is, asked, w.if-is_recorded.false, raised_none, set-get_or)
     ]
 
 pub loop-i-smaller : goal.loop-i-smaller
 loop-i-smaller c = rw (step (goal.at.loop-i-smaller c).Joined-is_recorded) (simp length-set (omega arith))
 
 pub loop-i-preserved : goal.loop-i-preserved
-loop-i-preserved c = let now = c.loop-i in
+loop-i-preserved c =
+    let now = c.loop-i in
     rw (step (goal.at.loop-i-preserved c).Joined-is_recorded) (rw length-set now.invariant.0, rest _ _ _ c.loop-i-test.true ∙ now.invariant.1)
 
 pub shape_of-slots : goal.shape_of-slots
@@ -54,5 +55,6 @@ shape_of-slots c = c.loop-i.invariant.0
 
 pub returns : goal.returns
 unfolding raised_from
-returns c = let ended = c.loop-i-test.false in
+returns c =
+    let ended = c.loop-i-test.false in
     rw (take_all _ _ ended, drop_of_length-le _ ended, append-nil) at c.loop-i.invariant.1

@@ -8,6 +8,7 @@ use Rattle.writes.proofs.packed_width.Goals as goal
 
 pub returns : goal.returns
 unfolding manual_writes manual
-returns c = let right-everywhere : Unit {0} = tt in
+returns c =
+    let right-everywhere : Unit {0} = tt in
     let in_table : c.args.op < 256 = search rules in
     rw entry

@@ -12,7 +12,8 @@ pub overflow_add-a : goal.overflow_add-a
 overflow_add-a c = omega (arith, c.requires c.if-whole.true)
 
 pub returns-then-whole : goal.returns-then-whole
-returns-then-whole c = let bytes = c.requires c.if-whole.true in
+returns-then-whole c =
+    let bytes = c.requires c.if-whole.true in
     let end : c.args.a + (c.args.s.len - 1) ≡ c.args.a + c.args.s.len - 1 = omega arith in
     c.widen_run.ensures ∙ rw (c.widen.ensures, c.named-run.ensures, c.if-whole.true, end)
 

@@ -7,10 +7,12 @@ pub returns-then-size-eq0 : goal.returns-then-size-eq0
 returns-then-size-eq0 c = rw (eq-eqb _ _ c.if-size-eq0.true)
 
 pub returns-then-size-room : goal.returns-then-size-room
-returns-then-size-room c = let b = c.args in
+returns-then-size-room c =
+    let b = c.args in
     let e : b.load + b.size - 1 ≡ b.load + (b.size - 1) = omega arith in
     rw (ne_eqb _ _ c.if-size-eq0.false, e, le-leb (b.load + (b.size - 1)) 0xFFFF (omega arith))
 
 pub returns-else-size-room : goal.returns-else-size-room
-returns-else-size-room c = let b = c.args in
+returns-else-size-room c =
+    let b = c.args in
     rw (ne_eqb _ _ c.if-size-eq0.false, lt-leb (b.load + b.size - 1) 0xFFFF (omega arith))

@@ -5,7 +5,8 @@ use Rattle.image.proofs.Inside.{inside_no}
 use Rattle.image.proofs.Bounds.next.Goals as goal
 
 pub returns-then-a-n : goal.returns-then-a-n
-returns-then-a-n c = let b = c.args in
+returns-then-a-n c =
+    let b = c.args in
     let past_top : inside b.self.load b.self.last (b.a + b.n) ≡ false = inside_no _ _ _ (λ p q. omega arith) in
     rw past_top
 
