@@ -3,7 +3,6 @@ use Prim.Native.Nat.{◌/◌, ◌^◌}
 use native.Mathlib.Omega.{arith}
 use lib.Count.{trailing_le}
 use Rattle.address_set.proofs.Bit.{lowest}
-use borrow.Author.Rules.{rules}
 use Rattle.address_set.proofs.low_from.Goals as goal
 
 pub overflow_add-result : goal.overflow_add-result

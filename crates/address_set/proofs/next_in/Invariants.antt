@@ -1,14 +1,6 @@
 -- What each turn of `address_set::next_in` keeps.
-use mathlib.Core.Path.{◌≡◌, ap, ◌∙◌}
-use mathlib.Core.Bool.{false}
-use mathlib.Core.List.{List}
-use Prim.Native.Nat.{ℕ, suc, ◌+◌, ◌-◌, ◌*◌, ◌≤◌, ◌<◌}
-use native.Mathlib.Decide.{dec_lt}
-use native.Mathlib.Omega.{arith}
-use lib.ListN.{get_or}
-use Rattle.address_set.specs.Map.{has}
-use Rattle.address_set.specs.Next.{Free, Least, Lowest}
-use Rattle.address_set.proofs.Laws.{has_at}
+use Prim.Native.Nat.{suc, ◌+◌, ◌-◌, ◌*◌, ◌≤◌, ◌<◌}
+use Rattle.address_set.specs.Next.{Free}
 use Rattle.address_set.proofs.next_in.Given as goal
 
 -- the place that it looks at is s of the byte i

@@ -1,11 +1,7 @@
 -- `diagnosis::add_outside` meets its contract: with the entries from i on, the map has what it is to have in the end.
 use mathlib.Core.Path.{refl, sym, ◌∙◌}
-use Prim.Native.Nat.{◌≤◌, ◌-◌}
 use native.Mathlib.Omega.{arith}
-use lib.ListN.{length}
-use borrow.Author.Rules.{rules}
-use borrow.Author.Tests.{not-true, not-false}
-use Rattle.diagnosis.proofs.Adding.{Adding, added_inside, added_outside, added_all}
+use Rattle.diagnosis.proofs.Adding.{added_inside, added_outside, added_all}
 use Rattle.diagnosis.proofs.add_outside.Goals as goal
 use Rattle.diagnosis.proofs.add_outside.Goals.{then-not-inside, else-not-inside}
 

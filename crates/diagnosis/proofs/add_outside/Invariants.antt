@@ -1,12 +1,7 @@
 -- What each turn of `diagnosis::add_outside` keeps.
-use mathlib.Core.Path.{refl, sym, ◌∙◌}
-use mathlib.Core.Logic.{⊎_elim}
 use Prim.Native.Nat.{◌≤◌, ◌-◌}
-use native.Mathlib.Omega.{arith}
 use lib.ListN.{length}
-use borrow.Author.Rules.{rules}
-use borrow.Author.Tests.{not-true, not-false}
-use Rattle.diagnosis.proofs.Adding.{Adding, added_inside, added_outside, added_all}
+use Rattle.diagnosis.proofs.Adding.{Adding}
 use Rattle.diagnosis.proofs.add_outside.Given as goal
 
 abbrev pub invariant-loop-i : goal.invariant-loop-i

@@ -1,7 +1,6 @@
 -- `diagnosis::concerned_range` meets its contract: where all entries are inside, the image's own range has them, and else every address does.
 use mathlib.Core.Path.{sym, ◌∙◌}
 use native.Mathlib.Omega.{arith}
-use borrow.Author.Rules.{rules}
 use Rattle.lists.proofs.Sets.{all_below}
 use Rattle.lists.proofs.Tests.{pass, passed}
 use Rattle.image.proofs.Inside.{inside_bounds}

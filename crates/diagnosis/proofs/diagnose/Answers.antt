@@ -1,8 +1,7 @@
--- `diagnosis::diagnose` meets its contract: each of its ways out is one of the answers. In the answers below, b is the place where the bounds are known.
+-- `diagnosis::diagnose` meets its contract: each of its ways out is one of the answers.
 use mathlib.Core.Path.{refl, sym, ◌∙◌}
 use Prim.Native.Nat.{ℕ}
 use lib.ListN.{length-replicate}
-use borrow.Author.Rules.{rules}
 use Rattle.lists.proofs.Sets.{all_below}
 use Rattle.address_set.proofs.Laws.{empty_has}
 use Rattle.walk.proofs.Members.{met_within}

@@ -5,7 +5,6 @@ use Prim.Native.Nat.{ℕ, ◌-◌}
 use native.Mathlib.Omega.{arith}
 use lib.ListN.{length-replicate}
 use lib.Seq.{length-take-le}
-use borrow.Author.Rules.{rules}
 use Rattle.image.specs.Image.{byte_at}
 use Rattle.lists.proofs.Zeros.{zeros_at}
 use Rattle.diagnosis.proofs.Raise.{fills, fills_none}

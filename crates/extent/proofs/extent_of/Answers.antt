@@ -2,20 +2,11 @@
 -- whole answer. What a search finds begins the list of these members.
 use mathlib.Core.Path.{◌≡◌, refl, sym, ◌∙◌}
 use mathlib.Core.Bool.{cond}
-use mathlib.Core.List.{List}
-use mathlib.Core.Logic.{⊎_elim}
-use Prim.Native.Nat.{ℕ, suc, ◌+◌, ◌-◌, ◌≤◌}
+use Prim.Native.Nat.{ℕ, ◌+◌}
 use native.Mathlib.Omega.{arith}
-use borrow.Author.Rules.{rules}
-use borrow.Author.Tests.{not-true, not-false}
-use Rattle.lists.specs.Lists.{scan}
 use Rattle.mos6502.specs.Class.{manual_class}
-use Rattle.image.specs.declared.Bounds.{Bounds}
-use Rattle.image.specs.declared.Address.{Address}
-use Rattle.address_set.specs.Map.{has}
 use Rattle.address_set.specs.Next.{Least}
 use Rattle.address_set.proofs.Laws.{next_at, next_nothing}
-use Rattle.site.specs.declared.Reading.{Reading}
 use Rattle.site.specs.Site.{site_in}
 use Rattle.site.proofs.Size.{site_size}
 use Rattle.extent.specs.declared.Extent.{Extent}

@@ -1,5 +1,4 @@
 -- `extent::is_skipped` meets its contract: each arm is a clause of the definition.
-use borrow.Author.Rules.{rules}
 use Rattle.extent.proofs.is_skipped.Goals as goal
 
 pub returns-in-At : goal.returns-in-At

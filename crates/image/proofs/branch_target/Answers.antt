@@ -1,5 +1,5 @@
 -- `image::branch_target` meets its contract: an offset below 128 is added; from 128 on, what it lacks to 256 is taken away; both modulo 65,536.
-use Rattle.std.proofs.Common.{arith, rules, le-ltb, lt-ltb}
+use Rattle.std.proofs.Common.{arith, le-ltb, lt-ltb}
 use Rattle.image.specs.Image.{branch_target}
 use Rattle.image.proofs.branch_target.Goals as goal
 

@@ -1,5 +1,5 @@
 -- `image::checked_add` meets its contract: b is compared with the room above a, so that no sum can overflow.
-use Rattle.std.proofs.Common.{◌+◌, arith, rules, le-leb}
+use Rattle.std.proofs.Common.{◌+◌, arith, le-leb}
 use borrow.Author.Tests.{lt-leb}
 use Rattle.image.proofs.checked_add.Goals as goal
 

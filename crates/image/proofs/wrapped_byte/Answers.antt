@@ -1,5 +1,5 @@
 -- `image::wrapped_byte` meets its contract: what `wrapping_sub_u16` answers is the offset modulo 65,536.
-use Rattle.std.proofs.Common.{◌≡◌, ◌+◌, ◌-◌, ◌%◌, arith, rules, le-ltb, lt-ltb}
+use Rattle.std.proofs.Common.{◌≡◌, ◌+◌, ◌-◌, ◌%◌, arith, le-ltb, lt-ltb}
 use Rattle.image.proofs.wrapped_byte.Goals as goal
 
 pub returns-then-i-image : goal.returns-then-i-image

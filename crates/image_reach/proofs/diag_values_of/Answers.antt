@@ -1,7 +1,6 @@
 -- `image_reach::diag_values_of` meets its contract: in each arm the answer's variant is known, and so are its values.
 use mathlib.Core.Path.{◌≡◌}
 use Prim.Native.Nat.{ℕ}
-use borrow.Author.Rules.{rules}
 use Rattle.diagnosis.specs.declared.DiagAnswer.{DiagAnswer}
 use Rattle.diagnosis.specs.declared.DiagAnswer.TheVariants.{Short}
 use Rattle.diagnosis.specs.Answers.{wanting, values_of as diag_values_of}

@@ -1,5 +1,4 @@
 -- `image_reach::image_reach_track_immediates` meets its contract: the state is the tracker's, and each register's value and mark are read off it.
-use borrow.Author.Rules.{rules}
 use Rattle.image_reach.proofs.image_reach_track_immediates.Goals as goal
 
 pub returns : goal.returns

@@ -1,5 +1,4 @@
 -- `job::header` meets its contract: it is made of the words that the callees read.
-use borrow.Author.Rules.{rules}
 use Rattle.job.proofs.header.Goals as goal
 
 pub returns : goal.returns

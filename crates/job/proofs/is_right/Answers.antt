@@ -1,6 +1,5 @@
 -- `job::is_right` meets its contract: each test that fails is one of the three of `is_right`.
 use borrow.Author.Tests.{eq-eqb, ne_eqb}
-use borrow.Author.Rules.{rules}
 use Rattle.job.proofs.is_right.Goals as goal
 
 pub returns-then-word32-ne-HEADER : goal.returns-then-word32-ne-HEADER

@@ -7,7 +7,6 @@ use native.Mathlib.Omega.{arith}
 use lib.ListN.{length-set}
 use lib.Seq.{sets-eq}
 use Rattle.job.specs.Written.{bytes16}
-use borrow.Author.Rules.{rules}
 use Rattle.job.proofs.put16.Goals as goal
 
 pub bounds-out-n-2 : goal.bounds-out-n-2

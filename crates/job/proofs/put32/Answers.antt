@@ -3,7 +3,6 @@ use Prim.Native.Nat.{◌+◌, ◌%◌}
 use native.Mathlib.Omega.{arith}
 use Rattle.job.specs.Written.{bytes16, bytes32}
 use Rattle.job.proofs.Placing.{placed_next, bytes16_length}
-use borrow.Author.Rules.{rules}
 use Rattle.job.proofs.put32.Goals as goal
 
 pub returns : goal.returns

@@ -1,11 +1,9 @@
 -- `job::put_bytes` meets its contract. The loop's invariant: the first i bytes are copied, and the others are as they were.
 use mathlib.Core.Path.{◌≡◌, ap, ◌∙◌}
-use Prim.Native.Nat.{◌-◌, ◌≤◌}
 use native.Mathlib.Numerals.{add-one}
 use native.Mathlib.Omega.{arith}
 use lib.ListN.{length}
-use lib.Seq.{take-length, paste, paste-zero, paste-suc, length-paste}
-use borrow.Author.Rules.{rules}
+use lib.Seq.{take-length, paste-zero, paste-suc, length-paste}
 use Rattle.job.proofs.put_bytes.Goals as goal
 
 pub loop-i-init : goal.loop-i-init

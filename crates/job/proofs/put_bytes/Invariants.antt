@@ -1,11 +1,8 @@
 -- What each turn of `job::put_bytes` keeps.
-use mathlib.Core.Path.{◌≡◌, ap, ◌∙◌}
+use mathlib.Core.Path.{◌≡◌}
 use Prim.Native.Nat.{◌-◌, ◌≤◌}
-use native.Mathlib.Numerals.{add-one}
-use native.Mathlib.Omega.{arith}
 use lib.ListN.{length}
-use lib.Seq.{take-length, paste, paste-zero, paste-suc, length-paste}
-use borrow.Author.Rules.{rules}
+use lib.Seq.{paste}
 use Rattle.job.proofs.put_bytes.Given as goal
 
 abbrev pub invariant-loop-i : goal.invariant-loop-i

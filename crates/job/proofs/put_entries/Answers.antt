@@ -1,11 +1,10 @@
 -- `job::put_entries` meets its contract. The loop's invariant: the first i entries stand behind the header, and the other bytes are as they were.
 use mathlib.Core.Path.{◌≡◌, ap, ◌∙◌}
 use mathlib.Core.List.{List, []}
-use Prim.Native.Nat.{ℕ, ◌+◌, ◌*◌, ◌-◌, ◌≤◌, ◌<◌}
+use Prim.Native.Nat.{ℕ, ◌+◌, ◌*◌, ◌≤◌, ◌<◌}
 use native.Mathlib.Omega.{arith}
 use lib.ListN.{length, get_or, take}
 use lib.Seq.{length-take-le, take-length, paste-zero}
-use borrow.Author.Rules.{rules}
 use Rattle.job.specs.Written.{bytes16, words_of, placed}
 use Rattle.job.proofs.Placing.{placed_length, placed_next, words_of_length, words_of_more}
 use Rattle.job.proofs.put_entries.Goals as goal

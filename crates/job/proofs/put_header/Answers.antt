@@ -1,7 +1,6 @@
 -- `job::put_header` meets its contract: each of its five numbers goes right behind the one before it.
 use mathlib.Core.List.{◌++◌}
 use native.Mathlib.Omega.{arith}
-use borrow.Author.Rules.{rules}
 use Rattle.job.specs.Written.{bytes16, bytes32, header_of}
 use Rattle.job.proofs.Placing.{placed_next}
 use Rattle.job.proofs.put_header.Goals as goal

@@ -1,12 +1,11 @@
 -- `job::read_entries` meets its contract. The loop's invariant: the first i slots hold the first i entries, and the others are as they were.
 use mathlib.Core.Path.{◌≡◌, refl, ap, ◌∙◌}
 use mathlib.Core.List.{List, ◌++◌, append_assoc}
-use Prim.Native.Nat.{ℕ, ◌+◌, ◌*◌, ◌-◌, ◌≤◌, ◌<◌}
+use Prim.Native.Nat.{ℕ, ◌+◌, ◌*◌, ◌≤◌, ◌<◌}
 use native.Mathlib.Numerals.{add-one}
 use native.Mathlib.Omega.{arith}
 use lib.ListN.{length, set, drop, length-append, length-drop}
 use lib.Seq.{drop-cons, set_at}
-use borrow.Author.Rules.{rules}
 use Rattle.job.specs.Job.{word16, words_at}
 use Rattle.job.proofs.Words.{words_length, words_more}
 use Rattle.job.proofs.read_entries.Goals as goal

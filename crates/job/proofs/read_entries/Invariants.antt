@@ -1,14 +1,9 @@
 -- What each turn of `job::read_entries` keeps.
-use mathlib.Core.Path.{◌≡◌, refl, ap, ◌∙◌}
-use mathlib.Core.List.{List, ◌++◌, append_assoc}
-use Prim.Native.Nat.{ℕ, ◌+◌, ◌*◌, ◌-◌, ◌≤◌, ◌<◌}
-use native.Mathlib.Numerals.{add-one}
-use native.Mathlib.Omega.{arith}
-use lib.ListN.{length, set, drop, length-append, length-drop}
-use lib.Seq.{drop-cons, set_at}
-use borrow.Author.Rules.{rules}
-use Rattle.job.specs.Job.{word16, words_at}
-use Rattle.job.proofs.Words.{words_length, words_more}
+use mathlib.Core.Path.{◌≡◌}
+use mathlib.Core.List.{◌++◌}
+use Prim.Native.Nat.{◌-◌, ◌≤◌}
+use lib.ListN.{drop}
+use Rattle.job.specs.Job.{words_at}
 use Rattle.job.proofs.read_entries.Given as goal
 
 abbrev pub invariant-loop-i : goal.invariant-loop-i

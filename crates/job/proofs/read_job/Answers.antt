@@ -4,8 +4,7 @@ use mathlib.Core.Bool.{true, false}
 use mathlib.Core.List.{List}
 use Prim.Native.Nat.{ℕ, ◌+◌, ◌*◌}
 use native.Mathlib.Omega.{arith}
-use borrow.Author.Tests.{lt-ltb, not-true, not-false}
-use borrow.Author.Rules.{rules}
+use borrow.Author.Tests.{lt-ltb}
 use Rattle.job.specs.Job.{is_large, is_right}
 use Rattle.job.proofs.Parts.{small, whole, image_follows, answer_9, answer_10, answer_0}
 use Rattle.job.proofs.read_job.Goals as goal

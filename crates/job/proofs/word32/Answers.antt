@@ -1,6 +1,5 @@
 -- `job::word32` meets its contract: it is two words, of which the second counts 65,536 times.
 use native.Mathlib.Omega.{arith}
-use borrow.Author.Rules.{rules}
 use Rattle.job.specs.Job.{word32}
 use Rattle.job.proofs.word32.Goals as goal
 

@@ -6,7 +6,6 @@ use Prim.Native.Nat.{◌≤◌}
 use native.Mathlib.Omega.{arith}
 use lib.ListN.{length-append}
 use borrow.Author.Tests.{lt-ltb, le-ltb}
-use borrow.Author.Rules.{rules}
 use Rattle.job.specs.declared.Job.{Job}
 use Rattle.job.specs.Job.{is_large}
 use Rattle.job.specs.Written.{job_for, job_bytes, header_of, words_of}

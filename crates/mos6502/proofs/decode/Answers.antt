@@ -1,5 +1,4 @@
 -- `mos6502::decode` meets its contract: what is packed in the table is unpacked again.
-use borrow.Author.Rules.{rules}
 use Rattle.mos6502.proofs.Table.{unpacked}
 use Rattle.mos6502.proofs.decode.Goals as goal
 

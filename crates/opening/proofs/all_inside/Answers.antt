@@ -1,11 +1,6 @@
 -- `opening::all_inside` meets its contract: while all entries so far are inside, those left decide.
-use mathlib.Core.Path.{◌≡◌, refl, sym, ◌∙◌}
-use Prim.Native.Nat.{◌≤◌, ◌-◌}
+use mathlib.Core.Path.{refl, sym, ◌∙◌}
 use native.Mathlib.Omega.{arith}
-use lib.ListN.{length, drop}
-use borrow.Author.Rules.{rules}
-use borrow.Author.Tests.{not-true, not-false}
-use Rattle.opening.specs.Opening.{all_inside}
 use Rattle.opening.proofs.First.{one_inside, one_outside, all_passed}
 use Rattle.opening.proofs.all_inside.Goals as goal
 

@@ -1,12 +1,8 @@
 -- What each turn of `opening::all_inside` keeps.
-use mathlib.Core.Path.{◌≡◌, refl, sym, ◌∙◌}
+use mathlib.Core.Path.{◌≡◌}
 use Prim.Native.Nat.{◌≤◌, ◌-◌}
-use native.Mathlib.Omega.{arith}
 use lib.ListN.{length, drop}
-use borrow.Author.Rules.{rules}
-use borrow.Author.Tests.{not-true, not-false}
 use Rattle.opening.specs.Opening.{all_inside}
-use Rattle.opening.proofs.First.{one_inside, one_outside, all_passed}
 use Rattle.opening.proofs.all_inside.Given as goal
 
 abbrev pub invariant-loop-i : goal.invariant-loop-i

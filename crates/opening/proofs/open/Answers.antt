@@ -1,7 +1,6 @@
 -- `opening::open` meets its contract: it goes by where the image lies, and then by whether there is no entry.
 use mathlib.Core.Path.{sym, ◌∙◌}
 use borrow.Author.Tests.{eq-eqb, ne_eqb}
-use borrow.Author.Rules.{rules}
 use Rattle.opening.proofs.open.Goals as goal
 
 pub returns-then-count-eq0 : goal.returns-then-count-eq0

@@ -1,5 +1,5 @@
 -- `pages::compared_at` meets its contract: its two tests are the definition's.
-use Rattle.std.proofs.Common.{sym, ◌∙◌, rules}
+use Rattle.std.proofs.Common.{sym, ◌∙◌}
 use Rattle.pages.proofs.compared_at.Goals as goal
 
 pub returns-then-is_op : goal.returns-then-is_op

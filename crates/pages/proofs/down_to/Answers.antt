@@ -1,5 +1,5 @@
 -- `pages::down_to` meets its contract: the first page is a byte, and each arm is a clause of the definition.
-use Rattle.std.proofs.Common.{◌∙◌, arith, rules}
+use Rattle.std.proofs.Common.{◌∙◌, arith}
 use Rattle.pages.proofs.down_to.Goals as goal
 
 pub overflow_cast-page : goal.overflow_cast-page

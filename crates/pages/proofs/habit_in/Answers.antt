@@ -1,5 +1,4 @@
 -- `pages::habit_in` meets its contract: each field is read at z.
-use Rattle.std.proofs.Common.{rules}
 use Rattle.pages.proofs.habit_in.Goals as goal
 
 pub returns : goal.returns

@@ -1,5 +1,5 @@
 -- `pages::indy_store_span` meets its contract: where both bytes are known, `span_from` answers.
-use Rattle.std.proofs.Common.{◌∙◌, rules}
+use Rattle.std.proofs.Common.{◌∙◌}
 use Rattle.pages.proofs.indy_store_span.Goals as goal
 
 pub returns : goal.returns

@@ -1,9 +1,9 @@
 -- `pages::is_met` meets its contract. The loop's invariant: one of the members from `from` on has the opcode just where one of all members has it.
-use Rattle.std.proofs.Common.{◌≡◌, ℕ, suc, ◌+◌, ◌-◌, ◌≤◌, Bool, ◌||◌, List, sym, refl, ◌∙◌, arith, rules}
+use Rattle.std.proofs.Common.{◌≡◌, ℕ, ◌+◌, Bool, ◌||◌, sym, refl, ◌∙◌, arith}
 use Rattle.address_set.specs.Next.{Least}
 use Rattle.address_set.proofs.Laws.{found_least}
-use Rattle.pages.specs.Pages.{is_op, any_of}
-use Rattle.pages.proofs.Members.{members_from, any_next, any_end}
+use Rattle.pages.specs.Pages.{is_op}
+use Rattle.pages.proofs.Members.{any_next, any_end}
 use Rattle.pages.proofs.is_met.Invariants.{met_from}
 use Rattle.pages.proofs.is_met.Goals as goal
 use Rattle.pages.proofs.is_met.Goals.{At-loop-a, In-At, Start}

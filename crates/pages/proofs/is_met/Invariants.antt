@@ -1,9 +1,7 @@
 -- What each turn of `pages::is_met` keeps.
-use Rattle.std.proofs.Common.{◌≡◌, ℕ, suc, ◌+◌, ◌-◌, ◌≤◌, Bool, ◌||◌, List, sym, refl, ◌∙◌, arith, rules}
-use Rattle.address_set.specs.Next.{Least}
-use Rattle.address_set.proofs.Laws.{found_least}
+use Rattle.std.proofs.Common.{◌≡◌, ℕ, suc, ◌-◌, ◌≤◌, Bool, List}
 use Rattle.pages.specs.Pages.{is_op, any_of}
-use Rattle.pages.proofs.Members.{members_from, any_next, any_end}
+use Rattle.pages.proofs.Members.{members_from}
 use Rattle.pages.proofs.is_met.Given as goal
 
 -- is there the opcode among the members from `from` on?

@@ -1,5 +1,4 @@
 -- `pages::is_op` meets its contract: the byte there is compared with the opcode.
-use Rattle.std.proofs.Common.{rules}
 use Rattle.pages.proofs.is_op.Goals as goal
 
 pub returns-in-Value : goal.returns-in-Value

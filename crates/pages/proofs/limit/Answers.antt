@@ -1,5 +1,5 @@
 -- `pages::limit` meets its contract: `note` takes the operand in for the byte that is loaded and leaves the others as they were.
-use Rattle.std.proofs.Common.{◌≡◌, ℕ, Bool, true, false, cond, ◌&&◌, List, sym, refl, rules, eq-eqb, ne_eqb}
+use Rattle.std.proofs.Common.{◌≡◌, ℕ, Bool, true, false, cond, ◌&&◌, List, sym, refl, eq-eqb, ne_eqb}
 use native.Mathlib.Decide.{ℕ_discrete}
 use Rattle.tracker.specs.declared.Known.{Known}
 use Rattle.tracker.specs.declared.Known.TheVariants.{Value, Unknown}

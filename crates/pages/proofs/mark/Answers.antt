@@ -1,5 +1,5 @@
 -- `pages::mark` meets its contract: a 1 at the operand marks it and leaves the others as they were.
-use Rattle.std.proofs.Common.{◌≡◌, ℕ, ◌<◌, Bool, true, ◌&&◌, ◌||◌, List, length, set, sym, refl, arith, length-set, get_or-set_other, get_or-set_same, rules, eq-eqb, ne_eqb}
+use Rattle.std.proofs.Common.{◌≡◌, ℕ, ◌<◌, Bool, true, ◌&&◌, ◌||◌, List, length, set, sym, refl, arith, length-set, get_or-set_other, get_or-set_same, eq-eqb, ne_eqb}
 use native.Mathlib.Decide.{ℕ_discrete}
 use Rattle.tracker.specs.declared.Known.{Known}
 use Rattle.tracker.specs.declared.Known.TheVariants.{Value}

@@ -1,11 +1,11 @@
 -- `pages::mark_operands` meets its contract. The loop's invariant: a byte is marked now, or the operand of a member from `from` on, just where it is
 -- the operand of one of them all.
-use Rattle.std.proofs.Common.{◌≡◌, ℕ, suc, ◌+◌, ◌-◌, ◌≤◌, Bool, true, false, ◌||◌, List, length, sym, refl, ◌∙◌, arith, rules}
+use Rattle.std.proofs.Common.{◌≡◌, ℕ, ◌+◌, Bool, true, false, ◌||◌, sym, refl, ◌∙◌, arith}
 use Rattle.address_set.specs.Next.{Least}
 use Rattle.address_set.proofs.Laws.{found_least}
-use Rattle.pages.specs.Pages.{is_on, any_of}
+use Rattle.pages.specs.Pages.{is_on}
 use Rattle.pages.specs.Surveys.{is_marked}
-use Rattle.pages.proofs.Members.{members_from, any_next, any_end}
+use Rattle.pages.proofs.Members.{any_next, any_end}
 use Rattle.pages.proofs.mark_operands.Invariants.{named_from}
 use Rattle.pages.proofs.mark_operands.Goals as goal
 use Rattle.pages.proofs.mark_operands.Goals.{After-mark, At-loop-a, In-At, Start}

@@ -1,10 +1,8 @@
 -- What each turn of `pages::mark_operands` keeps.
-use Rattle.std.proofs.Common.{◌≡◌, ℕ, suc, ◌+◌, ◌-◌, ◌≤◌, Bool, true, false, ◌||◌, List, length, sym, refl, ◌∙◌, arith, rules}
-use Rattle.address_set.specs.Next.{Least}
-use Rattle.address_set.proofs.Laws.{found_least}
+use Rattle.std.proofs.Common.{◌≡◌, ℕ, suc, ◌-◌, ◌≤◌, Bool, ◌||◌, List, length}
 use Rattle.pages.specs.Pages.{is_on, any_of}
 use Rattle.pages.specs.Surveys.{is_marked}
-use Rattle.pages.proofs.Members.{members_from, any_next, any_end}
+use Rattle.pages.proofs.Members.{members_from}
 use Rattle.pages.proofs.mark_operands.Given as goal
 
 -- is z the operand of the opcode at one of the members from `from` on?

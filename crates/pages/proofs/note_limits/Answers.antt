@@ -1,14 +1,11 @@
 -- `pages::note_limits` meets its contract. The loop's invariant: of each byte, what the pairs from `from` on say, after what the arrays hold now, is what all
 -- pairs say of it.
-use Rattle.std.proofs.Common.{◌≡◌, ℕ, suc, ◌+◌, ◌-◌, ◌≤◌, cond, List, length, ◌∙◌, arith, rules}
+use Rattle.std.proofs.Common.{◌≡◌, ℕ, ◌+◌, cond, ◌∙◌, arith}
 use Rattle.address_set.specs.Map.{has}
 use Rattle.address_set.specs.Next.{Least}
 use Rattle.address_set.proofs.Laws.{found_least, next_at, next_nothing}
 use Rattle.resolver.specs.declared.Seen.{Seen}
-use Rattle.resolver.specs.declared.Seen.TheVariants.{Never}
-use Rattle.resolver.specs.Resolve.{seen_at}
 use Rattle.pages.specs.Pages.{is_on, compared_at, seen_also, limit_over}
-use Rattle.pages.proofs.Members.{members_from}
 use Rattle.pages.proofs.note_limits.Invariants.{onward}
 use Rattle.pages.proofs.note_limits.Goals as goal
 use Rattle.pages.proofs.note_limits.Goals.{After-limit, At-loop-a, In-At, Start}

@@ -1,12 +1,10 @@
 -- What each turn of `pages::note_limits` keeps.
-use Rattle.std.proofs.Common.{◌≡◌, ℕ, suc, ◌+◌, ◌-◌, ◌≤◌, cond, List, length, ◌∙◌, arith, rules}
+use Rattle.std.proofs.Common.{◌≡◌, ℕ, suc, ◌-◌, ◌≤◌, List, length}
 use Rattle.address_set.specs.Map.{has}
-use Rattle.address_set.specs.Next.{Least}
-use Rattle.address_set.proofs.Laws.{found_least, next_at, next_nothing}
 use Rattle.resolver.specs.declared.Seen.{Seen}
 use Rattle.resolver.specs.declared.Seen.TheVariants.{Never}
 use Rattle.resolver.specs.Resolve.{seen_at}
-use Rattle.pages.specs.Pages.{is_on, compared_at, seen_also, limit_over}
+use Rattle.pages.specs.Pages.{limit_over}
 use Rattle.pages.proofs.Members.{members_from}
 use Rattle.pages.proofs.note_limits.Given as goal
 

@@ -1,5 +1,5 @@
 -- `pages::over_pages` meets its contract: the two tests are the definition's.
-use Rattle.std.proofs.Common.{rules, le-leb}
+use Rattle.std.proofs.Common.{le-leb}
 use borrow.Author.Tests.{lt-leb}
 use Rattle.pages.proofs.over_pages.Goals as goal
 

@@ -1,5 +1,5 @@
 -- `pages::page_limit` meets its contract: each arm is a clause of the definition, and from a byte the pages go no further than 0xFF or 0.
-use Rattle.std.proofs.Common.{◌≡◌, ℕ, ◌+◌, ◌-◌, ◌<◌, Bool, true, false, cond, not, leb, refl, ◌∙◌, ⊎_elim, arith, rules, le-ltb, lt-ltb, leb-true}
+use Rattle.std.proofs.Common.{◌≡◌, ℕ, ◌+◌, ◌-◌, ◌<◌, Bool, true, false, cond, not, leb, refl, ◌∙◌, arith, le-ltb, lt-ltb, leb-true}
 use Rattle.image.specs.declared.Checked.TheVariants.{Fits, Fails}
 use Rattle.pages.specs.Pages.{pages_from, Page}
 use Rattle.pages.proofs.page_limit.Goals as goal

@@ -1,5 +1,5 @@
 -- `pages::pages_from` meets its contract: the sum is checked upwards, the difference downwards.
-use Rattle.std.proofs.Common.{◌∙◌, rules}
+use Rattle.std.proofs.Common.{◌∙◌}
 use Rattle.pages.proofs.pages_from.Goals as goal
 
 pub returns-then-up : goal.returns-then-up

@@ -1,5 +1,5 @@
 -- `pages::pointer_in` meets its contract: the byte after z is asked only where there is one.
-use Rattle.std.proofs.Common.{arith, rules, lt-ltb}
+use Rattle.std.proofs.Common.{arith, lt-ltb}
 use Rattle.pages.proofs.pointer_in.Goals as goal
 
 pub returns-then-z-eq255 : goal.returns-then-z-eq255

@@ -1,5 +1,5 @@
 -- `pages::span_from` meets its contract: its tests on INC and DEC are the definition's.
-use Rattle.std.proofs.Common.{◌∙◌, rules}
+use Rattle.std.proofs.Common.{◌∙◌}
 use Rattle.pages.proofs.span_from.Goals as goal
 
 pub returns-then-h : goal.returns-then-h

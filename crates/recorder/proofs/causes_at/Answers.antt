@@ -1,6 +1,5 @@
 -- `recorder::causes_at` meets its contract: its two tests are those of the definition.
 use mathlib.Core.Path.{sym, ◌∙◌}
-use borrow.Author.Rules.{rules}
 use Rattle.image.proofs.Inside.{inside_bounds}
 use Rattle.recorder.proofs.causes_at.Goals as goal
 

@@ -1,13 +1,12 @@
 -- `recorder::count_pairs` meets its contract. The loop's invariant: the pairs counted and those of the members from `from` on are all pairs, which holds at the
 -- start because no member is below the range. No address has more than two, so the count is at most twice `from`.
-use mathlib.Core.Path.{◌≡◌, ap}
-use Prim.Native.Nat.{ℕ, suc, ◌+◌, ◌-◌, ◌*◌, ◌≤◌}
+use mathlib.Core.Path.{ap}
+use Prim.Native.Nat.{ℕ}
 use native.Mathlib.Omega.{arith}
 use lib.ListN.{length}
-use borrow.Author.Rules.{rules}
 use Rattle.address_set.specs.Next.{Least}
 use Rattle.address_set.proofs.Laws.{found_least}
-use Rattle.recorder.proofs.Members.{pairs_from, pairs_all, pairs_fewer, pairs_end}
+use Rattle.recorder.proofs.Members.{pairs_all, pairs_fewer, pairs_end}
 use Rattle.recorder.proofs.count_pairs.Goals as goal
 use Rattle.recorder.proofs.count_pairs.Goals.{At-loop-a, In-At, Start}
 

@@ -1,12 +1,8 @@
 -- What each turn of `recorder::count_pairs` keeps.
-use mathlib.Core.Path.{◌≡◌, ap}
-use Prim.Native.Nat.{ℕ, suc, ◌+◌, ◌-◌, ◌*◌, ◌≤◌}
-use native.Mathlib.Omega.{arith}
+use mathlib.Core.Path.{◌≡◌}
+use Prim.Native.Nat.{suc, ◌+◌, ◌-◌, ◌*◌, ◌≤◌}
 use lib.ListN.{length}
-use borrow.Author.Rules.{rules}
-use Rattle.address_set.specs.Next.{Least}
-use Rattle.address_set.proofs.Laws.{found_least}
-use Rattle.recorder.proofs.Members.{pairs_from, pairs_all, pairs_fewer, pairs_end}
+use Rattle.recorder.proofs.Members.{pairs_from}
 use Rattle.recorder.proofs.count_pairs.Given as goal
 
 abbrev pub invariant-loop-a : goal.invariant-loop-a

@@ -1,6 +1,5 @@
 -- `recorder::pair_known` meets its contract: a byte that is not 0xFF is below it, and the two marks are read one after the other.
 use native.Mathlib.Omega.{arith}
-use borrow.Author.Rules.{rules}
 use borrow.Author.Tests.{lt-ltb, ne_eqb}
 use Rattle.recorder.proofs.pair_known.Goals as goal
 

@@ -6,7 +6,6 @@ use native.Mathlib.Numerals.{add-one}
 use native.Mathlib.Omega.{arith}
 use lib.ListN.{length, length-map, length-set}
 use lib.Seq.{sets, sets-eq}
-use borrow.Author.Rules.{rules}
 use Rattle.cause.specs.declared.RefusalCause.{RefusalCause}
 use Rattle.records.specs.Packed.{packed}
 use Rattle.recorder.specs.declared.Facts.{Facts}

@@ -1,7 +1,6 @@
 -- `recorder::record_of` meets its contract: the pointer and the two flags stand where the cause asks for them, and are 0 or false elsewhere.
 use mathlib.Core.Path.{◌≡◌, ◌∙◌}
 use mathlib.Core.Bool.{cond, ◌&&◌}
-use borrow.Author.Rules.{rules}
 use Rattle.recorder.proofs.record_of.Goals as goal
 use Rattle.recorder.proofs.record_of.Goals.{Joined-present, Joined-y, Joined-y-2, then-present, else-present, then-y, else-y, then-y-2, else-y-2}
 

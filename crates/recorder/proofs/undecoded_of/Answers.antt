@@ -1,5 +1,4 @@
 -- `recorder::undecoded_of` meets its contract, arm by arm.
-use borrow.Author.Rules.{rules}
 use Rattle.recorder.proofs.undecoded_of.Goals as goal
 
 pub returns-in-Spent : goal.returns-in-Spent

@@ -1,26 +1,13 @@
 -- What each turn of `recorder::write_records` keeps.
-use mathlib.Core.Path.{◌≡◌, refl, sym, ap, ◌∙◌}
-use mathlib.Core.List.{List, ◌++◌}
-use mathlib.Core.Logic.{⊎_elim}
-use Prim.Native.Nat.{ℕ, suc, ◌+◌, ◌-◌, ◌≤◌}
-use native.Mathlib.Omega.{arith}
-use lib.ListN.{length, length-append, length-map}
-use borrow.Author.Rules.{rules}
+use mathlib.Core.List.{List}
+use Prim.Native.Nat.{ℕ, suc, ◌-◌, ◌≤◌}
 use Rattle.lists.specs.Lists.{scan}
-use Rattle.lists.proofs.Filling.{Filled, filled_none, filled_length, filled_all, filled_room}
+use Rattle.lists.proofs.Filling.{Filled}
 use Rattle.image.specs.declared.Bounds.{Bounds}
 use Rattle.image.specs.declared.Address.{Address}
-use Rattle.image.proofs.Inside.{inside_bounds}
 use Rattle.address_set.specs.Map.{has}
-use Rattle.address_set.specs.Next.{Least}
-use Rattle.address_set.proofs.Laws.{found_least}
-use Rattle.site.specs.Site.{list_of}
-use Rattle.tracker.specs.Track.{nothing, Reached, state_of}
-use Rattle.tracker.proofs.Passage.{reached_start}
-use Rattle.recorder.specs.Records.{records_with}
-use Rattle.recorder.proofs.Members.{records_from, records_all, records_next, records_end}
-use Rattle.recorder.proofs.Filling.{filled_put}
-use Rattle.recorder.proofs.Sharing.{Ready, ready_inside, ready_outside}
+use Rattle.tracker.specs.Track.{Reached, state_of}
+use Rattle.recorder.proofs.Members.{records_from}
 use Rattle.recorder.proofs.write_records.Given as goal
 
 -- the members inside, ascending

@@ -1,6 +1,5 @@
 -- `records::pack` meets its contract: the same sum, its terms grouped so that none can overflow.
 use native.Mathlib.Omega.{arith}
-use borrow.Author.Rules.{rules}
 use Rattle.records.specs.Packed.{packed}
 use Rattle.records.proofs.pack.Goals as goal
 

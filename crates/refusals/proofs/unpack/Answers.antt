@@ -2,7 +2,6 @@
 use mathlib.Core.Path.{◌≡◌, ap, ◌∙◌}
 use Prim.Native.Nat.{ℕ}
 use lib.Dec.{eqb}
-use borrow.Author.Rules.{rules}
 use Rattle.cause.specs.Cause.{cause_at}
 use Rattle.refusals.proofs.unpack.Goals as goal
 

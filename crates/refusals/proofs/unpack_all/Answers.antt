@@ -1,5 +1,5 @@
 -- `refusals::unpack_all` meets its contract: the record at i goes over the struct at i.
-use Rattle.std.proofs.Common.{◌<◌, length, arith}
+use Rattle.std.proofs.Common.{arith}
 use Rattle.refusals.proofs.Over.{over_next}
 use Rattle.refusals.proofs.unpack_all.Goals as goal
 

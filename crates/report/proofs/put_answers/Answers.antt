@@ -1,7 +1,6 @@
 -- `report::put_answers` meets its contract: the four texts are put one after the other, and there is room for them.
 use mathlib.Core.List.{List, ◌++◌}
 use Prim.Native.Nat.{ℕ}
-use borrow.Author.Rules.{rules}
 use Rattle.lists.specs.Text.{ascii}
 use Rattle.report.specs.Lines.{Room, span_line, diag_lines, stores_lines}
 use Rattle.report.proofs.Answering.{first_room, second_room, third_room, fourth_room, all_put, refusals_kept, spans_kept, answers_room}

@@ -2,7 +2,6 @@
 use mathlib.Core.Path.{refl}
 use mathlib.Core.List.{[], ◌∷◌}
 use lib.Seq.{sets-eq}
-use borrow.Author.Rules.{rules}
 use Rattle.report.proofs.put_byte.Goals as goal
 
 pub returns : goal.returns

@@ -1,5 +1,4 @@
 -- `report::put_cause` meets its contract: slug and pointer are put, and then what follows.
-use borrow.Author.Rules.{rules}
 use Rattle.cause.specs.Cause.{slug_of}
 use Rattle.report.specs.Lines.{pointer_word}
 use Rattle.report.proofs.Joining.{word_room, rest_room, put_word}

@@ -1,5 +1,4 @@
 -- `report::put_counts` meets its contract: both numbers are put one after the other.
-use borrow.Author.Rules.{rules}
 use Rattle.text.specs.Text.{decimal_of}
 use Rattle.report.proofs.Joining.{word_room, rest_room, put_word}
 use Rattle.report.proofs.put_counts.Goals as goal

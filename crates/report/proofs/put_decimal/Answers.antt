@@ -1,6 +1,5 @@
 -- `report::put_decimal` meets its contract: the digits are put, and then the byte.
 use mathlib.Core.List.{[], ◌∷◌}
-use borrow.Author.Rules.{rules}
 use Rattle.text.specs.Text.{decimal_of}
 use Rattle.report.proofs.Joining.{put_both, room_first, room_second}
 use Rattle.report.proofs.put_decimal.Goals as goal

@@ -2,7 +2,6 @@
 use mathlib.Core.Path.{sym}
 use lib.Seq.{length-take-le}
 use lib.ListN.{take}
-use borrow.Author.Rules.{rules}
 use Rattle.report.specs.Lines.{record_line, lines, summary_line}
 use Rattle.report.proofs.Joining.{put_both, room_first, room_second}
 use Rattle.report.proofs.put_diag.Goals as goal

@@ -1,5 +1,4 @@
 -- `report::put_flags` meets its contract: its three words are put one after the other.
-use borrow.Author.Rules.{rules}
 use Rattle.text.specs.Text.{hex_of}
 use Rattle.report.proofs.Joining.{word_room, rest_room, put_word}
 use Rattle.report.proofs.put_flags.Goals as goal

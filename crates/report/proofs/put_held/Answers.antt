@@ -1,6 +1,5 @@
 -- `report::put_held` meets its contract: where the mark is 1, the byte's two digits are put.
 use borrow.Author.Tests.{eq-eqb, ne_eqb}
-use borrow.Author.Rules.{rules}
 use Rattle.report.proofs.put_held.Goals as goal
 
 pub put_hex-requires : goal.put_hex-requires

@@ -1,7 +1,6 @@
 -- `report::put_hex` meets its contract: the digits are put, and then the byte.
 use mathlib.Core.List.{[], ◌∷◌}
 use native.Mathlib.Omega.{arith}
-use borrow.Author.Rules.{rules}
 use Rattle.text.specs.Text.{hex_of}
 use Rattle.text.proofs.Digits.{hex_length}
 use Rattle.report.proofs.Joining.{put_both, room_first, room_second}

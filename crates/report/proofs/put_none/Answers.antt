@@ -1,5 +1,4 @@
 -- `report::put_none` meets its contract: the name is put, and then the rest of its line.
-use borrow.Author.Rules.{rules}
 use Rattle.report.proofs.Joining.{word_room, rest_room, put_word}
 use Rattle.report.proofs.put_none.Goals as goal
 

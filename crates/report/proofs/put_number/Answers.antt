@@ -1,5 +1,4 @@
 -- `report::put_number` meets its contract: its words are put one after the other.
-use borrow.Author.Rules.{rules}
 use Rattle.report.proofs.Joining.{word_room, rest_room, put_word}
 use Rattle.report.proofs.put_number.Goals as goal
 

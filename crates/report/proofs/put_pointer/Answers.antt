@@ -1,5 +1,4 @@
 -- `report::put_pointer` meets its contract: mark and pointer are those of the record.
-use borrow.Author.Rules.{rules}
 use Rattle.report.proofs.put_pointer.Goals as goal
 
 pub put_held-requires : goal.put_held-requires

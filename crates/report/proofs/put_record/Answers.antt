@@ -1,5 +1,4 @@
 -- `report::put_record` meets its contract: its words are put one after the other.
-use borrow.Author.Rules.{rules}
 use Rattle.lists.specs.Text.{ascii}
 use Rattle.text.specs.Text.{hex_of}
 use Rattle.report.proofs.Joining.{word_room, rest_room, put_word}

@@ -1,10 +1,6 @@
 -- `report::put_records` meets its contract. The loop's invariant: the lines of the first i records are put.
-use Prim.Native.Nat.{◌-◌, ◌≤◌}
 use native.Mathlib.Omega.{arith}
-use lib.ListN.{length, take}
-use borrow.Author.Rules.{rules}
-use Rattle.text.specs.Text.{Put}
-use Rattle.report.specs.Lines.{record_line, lines}
+use Rattle.report.specs.Lines.{record_line}
 use Rattle.report.proofs.Listing.{lines_start, lines_all, lines_size, line_room, line_put}
 use Rattle.report.proofs.put_records.Goals as goal
 

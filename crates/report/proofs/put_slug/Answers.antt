@@ -1,7 +1,6 @@
 -- `report::put_slug` meets its contract: the first bytes of the slug's fifteen are put.
 use mathlib.Core.Path.{sym}
 use lib.Seq.{length-take-le}
-use borrow.Author.Rules.{rules}
 use Rattle.cause.proofs.Slugs.{slug_there, slug_taken}
 use Rattle.report.proofs.put_slug.Goals as goal
 

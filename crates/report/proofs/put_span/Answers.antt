@@ -1,5 +1,4 @@
 -- `report::put_span` meets its contract, arm by arm: a span's three words, or NONE.
-use borrow.Author.Rules.{rules}
 use Rattle.text.specs.Text.{hex_of}
 use Rattle.report.proofs.Joining.{word_room, rest_room, put_word}
 use Rattle.report.proofs.put_span.Goals as goal

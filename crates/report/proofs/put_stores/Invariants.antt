@@ -1,11 +1,8 @@
 -- What each turn of `report::put_stores` keeps.
 use Prim.Native.Nat.{◌-◌, ◌≤◌}
-use native.Mathlib.Omega.{arith}
 use lib.ListN.{length, take}
-use borrow.Author.Rules.{rules}
 use Rattle.text.specs.Text.{Put}
 use Rattle.report.specs.Lines.{store_line, lines}
-use Rattle.report.proofs.Listing.{lines_start, lines_all, lines_size, line_room, line_put}
 use Rattle.report.proofs.put_stores.Given as goal
 
 abbrev pub invariant-loop-i : goal.invariant-loop-i

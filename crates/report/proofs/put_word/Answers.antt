@@ -1,6 +1,5 @@
 -- `report::put_word` meets its contract: the word is put, and then the byte.
 use mathlib.Core.List.{[], ◌∷◌}
-use borrow.Author.Rules.{rules}
 use Rattle.report.proofs.Joining.{put_both, room_first, room_second}
 use Rattle.report.proofs.put_word.Goals as goal
 

@@ -2,7 +2,6 @@
 use Prim.Native.Nat.{ℕ}
 use native.Mathlib.Omega.{arith}
 use lib.ListN.{replicate}
-use borrow.Author.Rules.{rules}
 use Rattle.lists.specs.Text.{ascii}
 use Rattle.report.specs.Lines.{Room, job_line}
 use Rattle.report.proofs.Joining.{put_front}

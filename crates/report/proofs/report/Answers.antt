@@ -2,7 +2,6 @@
 use mathlib.Core.Path.{refl, sym, ◌∙◌}
 use lib.Seq.{length-take-le}
 use lib.ListN.{replicate}
-use borrow.Author.Rules.{rules}
 use Rattle.report.proofs.Parts.{entries_there, entries_taken, image_there, image_taken, reports_answers, reports_refusal}
 use Rattle.report.proofs.report.Goals as goal
 

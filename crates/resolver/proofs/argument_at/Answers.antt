@@ -1,5 +1,4 @@
 -- `resolver::argument_at` meets its contract: what `wrapping_add_u16` answers is the address after.
-use Rattle.std.proofs.Common.{rules}
 use Rattle.resolver.proofs.argument_at.Goals as goal
 
 pub returns : goal.returns

@@ -1,5 +1,4 @@
 -- `resolver::known_at` meets its contract: the byte is asked of the image.
-use Rattle.std.proofs.Common.{rules}
 use Rattle.resolver.proofs.known_at.Goals as goal
 
 pub returns-in-Byte : goal.returns-in-Byte

@@ -1,5 +1,5 @@
 -- `resolver::note` meets its contract: what is stored at `z` stands for what is known of it now, and nothing else is written.
-use Rattle.std.proofs.Common.{◌≡◌, ℕ, ◌<◌, List, length, set, sym, refl, ap, ◌∙◌, arith, length-set, get_or-set_other, get_or-set_same, rules}
+use Rattle.std.proofs.Common.{◌≡◌, ℕ, ◌<◌, List, length, set, sym, refl, ap, ◌∙◌, arith, length-set, get_or-set_other, get_or-set_same}
 use lib.Seq.{set-get_or}
 use Rattle.tracker.specs.declared.Known.{Known}
 use Rattle.resolver.specs.declared.Seen.{Seen}

@@ -1,16 +1,13 @@
 -- `resolver::resolve_all` meets its contract. The loop's invariant: of each byte, what the members from `from` on say, after what the registers and the arrays
 -- hold now, is what all members say of it. What a search finds begins the list of these members.
-use Rattle.std.proofs.Common.{◌≡◌, ℕ, suc, ◌+◌, ◌-◌, ◌≤◌, List, length, get_or, sym, ap, ◌∙◌, ⊎_elim, arith, rules}
-use Rattle.lists.specs.Lists.{scan}
+use Rattle.std.proofs.Common.{◌≡◌, ℕ, ◌+◌, get_or, sym, ap, ◌∙◌, arith}
 use Rattle.image.specs.Image.{byte_at}
-use Rattle.address_set.specs.Map.{has}
 use Rattle.address_set.specs.Next.{Least}
 use Rattle.address_set.proofs.Laws.{next_at, next_nothing}
 use Rattle.tracker.specs.declared.Registers.{Registers}
 use Rattle.tracker.specs.Track.{loaded}
 use Rattle.resolver.specs.declared.Seen.{Seen}
-use Rattle.resolver.specs.declared.Seen.TheVariants.{Never}
-use Rattle.resolver.specs.Resolve.{argument_at, seen_after, resolve, unloaded, is_held, seen_at}
+use Rattle.resolver.specs.Resolve.{argument_at, seen_after, resolve, is_held}
 use Rattle.resolver.proofs.Passing.{Passed, pass_store, pass_absent, pass_other, state_tells}
 use Rattle.resolver.proofs.resolve_all.Invariants.{onward}
 use Rattle.resolver.proofs.resolve_all.Goals as goal

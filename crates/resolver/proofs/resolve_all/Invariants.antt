@@ -1,16 +1,11 @@
 -- What each turn of `resolver::resolve_all` keeps.
-use Rattle.std.proofs.Common.{◌≡◌, ℕ, suc, ◌+◌, ◌-◌, ◌≤◌, List, length, get_or, sym, ap, ◌∙◌, ⊎_elim, arith, rules}
+use Rattle.std.proofs.Common.{◌≡◌, ℕ, suc, ◌-◌, ◌≤◌, List, length}
 use Rattle.lists.specs.Lists.{scan}
-use Rattle.image.specs.Image.{byte_at}
 use Rattle.address_set.specs.Map.{has}
-use Rattle.address_set.specs.Next.{Least}
-use Rattle.address_set.proofs.Laws.{next_at, next_nothing}
 use Rattle.tracker.specs.declared.Registers.{Registers}
-use Rattle.tracker.specs.Track.{loaded}
 use Rattle.resolver.specs.declared.Seen.{Seen}
 use Rattle.resolver.specs.declared.Seen.TheVariants.{Never}
-use Rattle.resolver.specs.Resolve.{argument_at, seen_after, resolve, unloaded, is_held, seen_at}
-use Rattle.resolver.proofs.Passing.{Passed, pass_store, pass_absent, pass_other, state_tells}
+use Rattle.resolver.specs.Resolve.{resolve, unloaded, seen_at}
 use Rattle.resolver.proofs.resolve_all.Given as goal
 
 -- what the members from `from` on say of the byte z, after what is known already

@@ -1,5 +1,5 @@
 -- `resolver::seen_with` meets its contract, arm by arm; two known values are compared as the definition compares them.
-use Rattle.std.proofs.Common.{rules, eq-eqb, ne_eqb}
+use Rattle.std.proofs.Common.{eq-eqb, ne_eqb}
 use Rattle.resolver.proofs.seen_with.Goals as goal
 
 pub returns-then-p-v : goal.returns-then-p-v

@@ -1,5 +1,4 @@
 -- `site::also` meets its contract, arm by arm.
-use borrow.Author.Rules.{rules}
 use Rattle.site.proofs.also.Goals as goal
 
 pub returns-in-Clear-then : goal.returns-in-Clear-then

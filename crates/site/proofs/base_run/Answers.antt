@@ -1,6 +1,5 @@
 -- `site::base_run` meets its contract: `inside` decides.
 use mathlib.Core.Path.{sym, ◌∙◌}
-use borrow.Author.Rules.{rules}
 use Rattle.site.proofs.base_run.Goals as goal
 
 pub returns-then-inside : goal.returns-then-inside

@@ -1,6 +1,5 @@
 -- `site::flow_cause` meets its contract, arm by arm.
 use borrow.Author.Tests.{eq-eqb, ne_eqb}
-use borrow.Author.Rules.{rules}
 use Rattle.site.proofs.flow_cause.Goals as goal
 
 pub returns-then-opcode-eq0 : goal.returns-then-opcode-eq0

@@ -1,6 +1,5 @@
 -- `site::named` meets its contract: the width decides which rule applies.
 use mathlib.Core.Path.{sym, ◌∙◌}
-use borrow.Author.Rules.{rules}
 use Rattle.site.proofs.named.Goals as goal
 
 pub returns-in-Nothing : goal.returns-in-Nothing

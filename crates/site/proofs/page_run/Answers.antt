@@ -1,7 +1,6 @@
 -- `site::page_run` meets its contract, reading by reading: the page ends at base + 255, stopped at 0xFFFF and then at last.
 use mathlib.Core.Path.{sym, ◌∙◌}
 use borrow.Author.Tests.{le-leb, lt-leb}
-use borrow.Author.Rules.{rules}
 use Rattle.site.proofs.page_run.Goals as goal
 
 pub returns-then-inside : goal.returns-then-inside

@@ -1,5 +1,4 @@
 -- `site::pointer_cause` meets its contract, arm by arm.
-use borrow.Author.Rules.{rules}
 use Rattle.site.proofs.pointer_cause.Goals as goal
 
 pub returns-in-Izy : goal.returns-in-Izy

@@ -1,5 +1,4 @@
 -- `site::ran_off` meets its contract: the else branch is where there is no next address.
-use borrow.Author.Rules.{rules}
 use Rattle.site.proofs.ran_off.Goals as goal
 
 pub returns-in_default : goal.returns-in_default

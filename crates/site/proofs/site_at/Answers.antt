@@ -1,6 +1,5 @@
 -- `site::site_at` meets its contract: it asks for each part in turn, and puts them together as the definition does.
 use native.Mathlib.Omega.{arith}
-use borrow.Author.Rules.{rules}
 use Rattle.site.proofs.Assembly.{site_undefined, site_cut, site_whole}
 use Rattle.site.proofs.site_at.Goals as goal
 

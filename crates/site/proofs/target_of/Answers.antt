@@ -1,5 +1,4 @@
 -- `site::target_of` meets its contract, arm by arm; a branch without a next address has no target.
-use borrow.Author.Rules.{rules}
 use Rattle.site.proofs.target_of.Goals as goal
 
 pub returns-in-Jump : goal.returns-in-Jump

@@ -2,7 +2,6 @@
 use mathlib.Core.Path.{◌≡◌}
 use mathlib.Core.List.{List}
 use Prim.Native.Nat.{ℕ}
-use borrow.Author.Rules.{rules}
 use Rattle.mos6502.specs.declared.Decoded.{Decoded}
 use Rattle.site.specs.declared.Reading.TheVariants.{Plain}
 use Rattle.span.specs.declared.SpanAnswer.{SpanAnswer}

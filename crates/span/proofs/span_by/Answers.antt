@@ -1,9 +1,7 @@
--- `span::span_by` meets its contract: each of its ways out is one of the answers. In the answers below, b is the place where the bounds are known.
+-- `span::span_by` meets its contract: each of its ways out is one of the answers.
 use mathlib.Core.Path.{sym, ◌∙◌}
 use Prim.Native.Nat.{ℕ}
 use lib.ListN.{length-replicate}
-use borrow.Author.Tests.{not-true, not-false}
-use borrow.Author.Rules.{rules}
 use Rattle.address_set.proofs.Laws.{empty_has}
 use Rattle.walk.proofs.Members.{met_within}
 use Rattle.walk.proofs.Possible.{refused≢finished, spent≢finished}

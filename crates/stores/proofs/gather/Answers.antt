@@ -1,23 +1,18 @@
 -- `stores::gather` meets its contract. The loop's invariant: the records of the members below `from` fill the first n slots, none of them is bounded by nothing, and
 -- the tracker, which stands no further than `from`, can go on to every later site.
 use mathlib.Core.Path.{◌≡◌, refl, sym, ap, ◌∙◌}
-use mathlib.Core.Bool.{Bool, ◌||◌}
-use mathlib.Core.List.{List, ◌++◌}
-use Prim.Native.Nat.{ℕ, suc, ◌+◌, ◌-◌, ◌≤◌}
+use mathlib.Core.Bool.{◌||◌}
+use mathlib.Core.List.{◌++◌}
+use Prim.Native.Nat.{ℕ, ◌+◌, ◌≤◌}
 use native.Mathlib.Omega.{arith}
 use lib.ListN.{length, length-append}
-use borrow.Author.Rules.{rules}
-use Rattle.lists.proofs.Filling.{Filled, filled_none, filled_length, filled_count, filled_all, filled_room}
-use Rattle.mos6502.specs.Class.{manual_class}
-use Rattle.image.specs.declared.Bounds.{Bounds}
-use Rattle.writes.specs.Writes.{manual_writes}
+use Rattle.lists.proofs.Filling.{filled_none, filled_length, filled_count, filled_all, filled_room}
 use Rattle.address_set.specs.Next.{Least}
 use Rattle.address_set.proofs.Laws.{found_least}
-use Rattle.tracker.specs.Track.{nothing, Reached, state_of}
+use Rattle.tracker.specs.Track.{nothing}
 use Rattle.tracker.proofs.Passage.{reached_start}
-use Rattle.pages.specs.declared.StoreSpan.{StoreSpan}
 use Rattle.pages.proofs.Members.{members_from, any_end}
-use Rattle.stores.specs.Stores.{store_at, is_anywhere, records_of, unbounded, records_over}
+use Rattle.stores.specs.Stores.{is_anywhere, records_of}
 use Rattle.stores.proofs.Gathering.{records_few, records_next, unbounded_next, records_end, filled_put, store_is}
 use Rattle.stores.proofs.gather.Invariants.{stores, records_from_here, unbounded_from}
 use Rattle.stores.proofs.gather.Goals as goal

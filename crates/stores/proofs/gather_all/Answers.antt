@@ -1,7 +1,6 @@
 -- `stores::gather_all` meets its contract: after the four passes the arrays hold what the members do with each zero-page byte.
 use Prim.Native.Nat.{ℕ}
 use lib.ListN.{replicate, length-replicate}
-use borrow.Author.Rules.{rules}
 use Rattle.lists.proofs.Zeros.{zeros_at}
 use Rattle.resolver.specs.Resolve.{Blank}
 use Rattle.stores.proofs.Surveying.{surveyed}

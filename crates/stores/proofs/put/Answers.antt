@@ -5,7 +5,6 @@ use Prim.Native.Nat.{ℕ, ◌+◌, ◌≤◌}
 use native.Mathlib.Omega.{arith}
 use lib.Seq.{sets, sets-eq}
 use lib.ListN.{length}
-use borrow.Author.Rules.{rules}
 use Rattle.pages.specs.declared.StoreSpan.TheVariants.{Nothing, Bytes, Anywhere}
 use Rattle.pages.specs.declared.StoreSpan.{StoreSpan}
 use Rattle.stores.specs.Steps.{Put}

@@ -1,6 +1,5 @@
 -- `stores::store_of` meets its contract, arm by arm.
 use mathlib.Core.Path.{ap}
-use borrow.Author.Rules.{rules}
 use Rattle.pages.specs.declared.StoreSpan.TheVariants.{Bytes}
 use Rattle.stores.proofs.store_of.Goals as goal
 

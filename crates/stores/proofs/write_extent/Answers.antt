@@ -4,8 +4,6 @@ use mathlib.Core.Path.{◌≡◌, refl, sym, subst, ◌∙◌}
 use Prim.Native.Nat.{ℕ}
 use native.Mathlib.Omega.{arith}
 use lib.ListN.{replicate, length-replicate}
-use borrow.Author.Tests.{not-true, not-false}
-use borrow.Author.Rules.{rules}
 use Rattle.address_set.proofs.Laws.{empty_has}
 use Rattle.opening.specs.Opening.{all_inside}
 use Rattle.opening.specs.declared.Opening.{Opening}

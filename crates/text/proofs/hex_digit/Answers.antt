@@ -1,6 +1,5 @@
 -- `text::hex_digit` meets its contract: ten digits from `0` on, six from `A` on.
 use borrow.Author.Tests.{lt-ltb, le-ltb}
-use borrow.Author.Rules.{rules}
 use Rattle.text.proofs.hex_digit.Goals as goal
 
 pub returns-then-d-lt10 : goal.returns-then-d-lt10

@@ -1,11 +1,10 @@
 -- `text::put` meets its contract. The loop's invariant: the first i bytes of the text are copied, and the others are as they were.
 use mathlib.Core.Path.{◌≡◌, ap, ◌∙◌}
-use Prim.Native.Nat.{ℕ, ◌+◌, ◌-◌, ◌≤◌}
+use Prim.Native.Nat.{ℕ, ◌+◌}
 use native.Mathlib.Numerals.{add-one}
 use native.Mathlib.Omega.{arith}
 use lib.ListN.{length}
-use lib.Seq.{paste, paste-zero, paste-suc, length-paste, take-length}
-use borrow.Author.Rules.{rules}
+use lib.Seq.{paste-zero, paste-suc, length-paste, take-length}
 use Rattle.text.proofs.put.Goals as goal
 use Rattle.text.proofs.put.Goals.{At-loop-i}
 

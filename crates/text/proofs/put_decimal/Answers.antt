@@ -6,7 +6,6 @@ use native.Mathlib.Omega.{arith}
 use lib.ListN.{take, drop, length-drop}
 use lib.Seq.{take_all}
 use Rattle.text.specs.Text.{decimal_of}
-use borrow.Author.Rules.{rules}
 use Rattle.text.proofs.put_decimal.Goals as goal
 use Rattle.text.proofs.put_decimal.Goals.{After-spell-first}
 

@@ -1,12 +1,11 @@
 -- `text::put_hex` meets its contract. The loop's invariant: with the digits that are left put at n, the buffer is what it is to be.
 use mathlib.Core.Path.{◌≡◌, refl, sym, ap, ◌∙◌}
 use mathlib.Core.List.{List, [], ◌∷◌, ◌++◌, append_assoc}
-use Prim.Native.Nat.{ℕ, suc, ◌+◌, ◌-◌, ◌/◌, ◌%◌, ◌≤◌, ◌<◌}
+use Prim.Native.Nat.{ℕ, suc, ◌+◌, ◌-◌, ◌/◌, ◌%◌, ◌<◌}
 use native.Mathlib.Nat.{add-suc}
 use native.Mathlib.Omega.{arith}
 use lib.ListN.{length, take, drop, set, length-set}
 use lib.Seq.{take-set-le, paste-zero}
-use borrow.Author.Rules.{rules}
 use Rattle.text.specs.Text.{hex_digit, hex_of}
 use Rattle.text.proofs.Digits.{hex_length, store_before, hex_step}
 use Rattle.text.proofs.put_hex.Goals as goal

@@ -1,14 +1,9 @@
 -- What each turn of `text::put_hex` keeps.
-use mathlib.Core.Path.{◌≡◌, refl, sym, ap, ◌∙◌}
-use mathlib.Core.List.{List, [], ◌∷◌, ◌++◌, append_assoc}
-use Prim.Native.Nat.{ℕ, suc, ◌+◌, ◌-◌, ◌/◌, ◌%◌, ◌≤◌, ◌<◌}
-use native.Mathlib.Nat.{add-suc}
-use native.Mathlib.Omega.{arith}
-use lib.ListN.{length, take, drop, set, length-set}
-use lib.Seq.{take-set-le, paste-zero}
-use borrow.Author.Rules.{rules}
-use Rattle.text.specs.Text.{hex_digit, hex_of}
-use Rattle.text.proofs.Digits.{hex_length, store_before, hex_step}
+use mathlib.Core.Path.{◌≡◌}
+use mathlib.Core.List.{◌++◌}
+use Prim.Native.Nat.{◌+◌, ◌≤◌}
+use lib.ListN.{length, take, drop}
+use Rattle.text.specs.Text.{hex_of}
 use Rattle.text.proofs.put_hex.Given as goal
 
 abbrev pub invariant-loop-i : goal.invariant-loop-i

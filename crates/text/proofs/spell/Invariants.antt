@@ -1,12 +1,9 @@
 -- What each turn of `text::spell` keeps.
-use mathlib.Core.Path.{◌≡◌, sym, ap, ◌∙◌, subst}
-use mathlib.Core.List.{List, ◌∷◌, ◌++◌, append-nil}
-use Prim.Native.Nat.{ℕ, zero, suc, ◌+◌, ◌-◌, ◌/◌, ◌%◌, ◌^◌, ◌≤◌, ◌<◌}
-use native.Mathlib.Omega.{arith}
-use lib.ListN.{length, drop, set, length-set, drop_of_length-le}
-use borrow.Author.Rules.{rules}
+use mathlib.Core.Path.{◌≡◌}
+use mathlib.Core.List.{List, ◌++◌}
+use Prim.Native.Nat.{ℕ, ◌^◌, ◌≤◌, ◌<◌}
+use lib.ListN.{length, drop}
 use Rattle.text.specs.Text.{decimal_by, decimal_of}
-use Rattle.text.proofs.Digits.{fewer, store_before, decimal_step, decimal_first}
 use Rattle.text.proofs.spell.Given as goal
 
 -- the digits that are left, before those written, are the whole number

@@ -1,10 +1,6 @@
 -- `tracker::advance` meets its contract: at the head of each turn the tracker of every longer prefix comes to this place with this state.
 use mathlib.Core.Path.{sym, ◌∙◌}
-use Prim.Native.Nat.{◌-◌, ◌≤◌}
 use native.Mathlib.Omega.{arith}
-use lib.ListN.{length}
-use borrow.Author.Rules.{rules}
-use Rattle.tracker.specs.Track.{Reached, state_of}
 use Rattle.tracker.proofs.Passage.{pass_two, pass_one, at_end}
 use Rattle.tracker.proofs.advance.Goals as goal
 

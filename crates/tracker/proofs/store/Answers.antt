@@ -1,6 +1,5 @@
 -- `tracker::store` meets its contract: a known value is set and marked, and where there is none nothing is written.
 use mathlib.Core.Path.{refl}
-use borrow.Author.Rules.{rules}
 use Rattle.tracker.proofs.store.Goals as goal
 
 pub returns-in-Value : goal.returns-in-Value

@@ -2,7 +2,6 @@
 use mathlib.Core.Path.{sym, ap, ◌∙◌}
 use native.Mathlib.Omega.{arith}
 use lib.Seq.{take-length}
-use borrow.Author.Rules.{rules}
 use Rattle.tracker.specs.Track.{nothing, tracked}
 use Rattle.tracker.proofs.Passage.{reached_start}
 use Rattle.tracker.proofs.track_immediates.Goals as goal

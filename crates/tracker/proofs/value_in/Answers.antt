@@ -1,6 +1,5 @@
 -- `tracker::value_in` meets its contract: a mark of 1 tells that the byte is known.
 use borrow.Author.Tests.{eq-eqb, ne_eqb}
-use borrow.Author.Rules.{rules}
 use Rattle.tracker.proofs.value_in.Goals as goal
 
 pub returns-then-marks-i-eq1 : goal.returns-then-marks-i-eq1

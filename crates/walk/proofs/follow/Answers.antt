@@ -1,5 +1,4 @@
 -- `walk::follow` meets its contract, arm by arm.
-use borrow.Author.Rules.{rules}
 use Rattle.walk.proofs.follow.Goals as goal
 
 pub returns-in-Call : goal.returns-in-Call

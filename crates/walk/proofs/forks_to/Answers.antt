@@ -1,6 +1,5 @@
 -- `walk::forks_to` meets its contract: where both addresses exist, `inside` decides.
 use mathlib.Core.Path.{sym, ◌∙◌}
-use borrow.Author.Rules.{rules}
 use Rattle.walk.proofs.forks_to.Goals as goal
 
 pub returns-in_default-target : goal.returns-in_default-target

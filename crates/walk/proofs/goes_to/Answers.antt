@@ -1,5 +1,4 @@
 -- `walk::goes_to` meets its contract, arm by arm.
-use borrow.Author.Rules.{rules}
 use Rattle.walk.proofs.goes_to.Goals as goal
 
 pub returns-in-At : goal.returns-in-At

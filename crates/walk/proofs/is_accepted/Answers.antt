@@ -1,6 +1,5 @@
 -- `walk::is_accepted` meets its contract: the constant holds the two addresses of the definition.
 use borrow.Author.Tests.{ne_eqb}
-use borrow.Author.Rules.{rules}
 use Rattle.walk.proofs.is_accepted.Goals as goal
 
 pub returns-then-t : goal.returns-then-t

@@ -1,5 +1,4 @@
 -- `walk::is_outside` meets its contract, arm by arm.
-use borrow.Author.Rules.{rules}
 use Rattle.walk.proofs.is_outside.Goals as goal
 
 pub returns-in-At : goal.returns-in-At

@@ -1,5 +1,4 @@
 -- `walk::leaves` meets its contract, arm by arm.
-use borrow.Author.Rules.{rules}
 use Rattle.walk.proofs.leaves.Goals as goal
 
 pub returns-in-Jump : goal.returns-in-Jump

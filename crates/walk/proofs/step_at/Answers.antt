@@ -1,6 +1,5 @@
 -- `walk::step_at` meets its contract: the step of the site that stands there.
 use mathlib.Core.Path.{◌∙◌}
-use borrow.Author.Rules.{rules}
 use Rattle.walk.proofs.step_at.Goals as goal
 
 pub returns : goal.returns

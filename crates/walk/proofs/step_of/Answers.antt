@@ -1,6 +1,5 @@
 -- `walk::step_of` meets its contract, rule by rule: the tests are those of the definition.
 use mathlib.Core.Path.{sym, ◌∙◌}
-use borrow.Author.Rules.{rules}
 use Rattle.walk.specs.Step.{step_by}
 use Rattle.walk.proofs.step_of.Goals as goal
 

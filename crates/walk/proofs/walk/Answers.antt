@@ -2,17 +2,11 @@
 -- The outer measure falls because a path takes what waits or an entry, and puts by at most one address for each that it meets.
 use mathlib.Core.Path.{◌≡◌, sym, ◌∙◌}
 use mathlib.Core.Bool.{true}
-use mathlib.Core.List.{List}
-use Prim.Native.Nat.{ℕ, ◌+◌, ◌-◌, ◌≤◌, ◌<◌}
+use Prim.Native.Nat.{◌+◌, ◌<◌}
 use native.Mathlib.Omega.{arith}
-use borrow.Author.Tests.{not-true, not-false}
-use borrow.Author.Rules.{rules}
-use Rattle.image.specs.declared.Bounds.{Bounds}
 use Rattle.image.specs.Image.{inside}
 use Rattle.image.proofs.Inside.{inside_bounds}
-use Rattle.walk.specs.declared.Rule.{Rule}
-use Rattle.walk.specs.Walked.{limit}
-use Rattle.walk.proofs.Link.{Setting, Link, Counts, Met, pausing, standing, begins, popped, taken, finished, outside, again, spent, meets}
+use Rattle.walk.proofs.Link.{Met, begins, popped, taken, finished, outside, again, spent, meets}
 use Rattle.walk.proofs.walk.Invariants.{setting}
 use Rattle.walk.proofs.walk.Goals as goal
 use Rattle.walk.proofs.walk.Goals.{After-step_at, Else-not-inside, Joined-waiting-gt0, then-waiting-gt0, else-waiting-gt0+else-left-eq0}

@@ -1,18 +1,10 @@
 -- What each turn of `walk::walk` keeps.
-use mathlib.Core.Path.{◌≡◌, sym, ◌∙◌}
-use mathlib.Core.Bool.{true}
-use mathlib.Core.Logic.{⊎_elim}
 use mathlib.Core.List.{List}
-use Prim.Native.Nat.{ℕ, ◌+◌, ◌-◌, ◌≤◌, ◌<◌}
-use native.Mathlib.Omega.{arith}
-use borrow.Author.Tests.{not-true, not-false}
-use borrow.Author.Rules.{rules}
+use Prim.Native.Nat.{ℕ, ◌+◌, ◌-◌, ◌≤◌}
 use Rattle.image.specs.declared.Bounds.{Bounds}
-use Rattle.image.specs.Image.{inside}
-use Rattle.image.proofs.Inside.{inside_bounds}
 use Rattle.walk.specs.declared.Rule.{Rule}
 use Rattle.walk.specs.Walked.{limit}
-use Rattle.walk.proofs.Link.{Setting, Link, Counts, Met, pausing, standing, begins, popped, taken, finished, outside, again, spent, meets}
+use Rattle.walk.proofs.Link.{Setting, Link, Counts, pausing, standing}
 use Rattle.walk.proofs.walk.Given as goal
 
 abbrev pub setting : (rule : Rule) (image : List ℕ) (bounds : Bounds) (entries : List ℕ) → Setting

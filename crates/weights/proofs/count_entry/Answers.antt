@@ -4,8 +4,6 @@ use mathlib.Core.List.{List, [], ◌∷◌}
 use Prim.Native.Nat.{ℕ}
 use native.Mathlib.Omega.{arith}
 use lib.ListN.{length, get_or, length-replicate}
-use borrow.Author.Rules.{rules}
-use borrow.Author.Tests.{not-true, not-false}
 use Rattle.address_set.specs.Map.{has}
 use Rattle.address_set.proofs.Laws.{empty_has}
 use Rattle.walk.specs.Walked.{as_end}

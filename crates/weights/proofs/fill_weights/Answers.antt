@@ -6,7 +6,6 @@ use Prim.Native.Nat.{ℕ, suc, ◌+◌, ◌-◌, ◌≤◌, ◌<◌}
 use native.Mathlib.Omega.{arith}
 use lib.ListN.{length, take, drop, get_or, length-take, length-drop, length-map}
 use lib.Seq.{drop-cons, drop-length}
-use Rattle.weights.specs.Weights.{Filled}
 use Rattle.weights.proofs.Counting.{filled_none, filled_more}
 use Rattle.weights.proofs.fill_weights.Goals as goal
 

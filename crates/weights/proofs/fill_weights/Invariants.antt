@@ -1,12 +1,7 @@
 -- What each turn of `weights::fill_weights` keeps.
-use mathlib.Core.Path.{◌≡◌, ap, ◌∙◌}
-use mathlib.Core.List.{List, [], ◌∷◌}
-use Prim.Native.Nat.{ℕ, suc, ◌+◌, ◌-◌, ◌≤◌, ◌<◌}
-use native.Mathlib.Omega.{arith}
-use lib.ListN.{length, take, drop, get_or, length-take, length-drop, length-map}
-use lib.Seq.{drop-cons, drop-length}
+use Prim.Native.Nat.{◌≤◌}
+use lib.ListN.{length, drop}
 use Rattle.weights.specs.Weights.{Filled}
-use Rattle.weights.proofs.Counting.{filled_none, filled_more}
 use Rattle.weights.proofs.fill_weights.Given as goal
 
 abbrev pub invariant-loop-i : goal.invariant-loop-i

@@ -1,6 +1,5 @@
 -- `weights::is_recorded` meets its contract: a member is asked for its causes, and no other address is.
 use mathlib.Core.Path.{sym, ◌∙◌}
-use borrow.Author.Rules.{rules}
 use Rattle.weights.proofs.is_recorded.Goals as goal
 
 pub returns-then-contains : goal.returns-then-contains

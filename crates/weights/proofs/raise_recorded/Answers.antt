@@ -1,18 +1,13 @@
 -- `weights::raise_recorded` meets its contract. The loop's invariant: the slots before `i` as they are, and those from `i` on raised, are the whole answer.
 use mathlib.Core.Path.{◌≡◌, refl, sym, ◌∙◌}
-use mathlib.Core.List.{List, ◌++◌, append-nil}
-use Prim.Native.Nat.{ℕ, suc, ◌+◌, ◌-◌, ◌<◌}
+use mathlib.Core.List.{List, append-nil}
+use Prim.Native.Nat.{ℕ, suc, ◌+◌, ◌<◌}
 use native.Mathlib.Numerals.{add-one}
 use native.Mathlib.Omega.{arith}
-use lib.ListN.{length, get_or, take, drop, set, length-set, drop_of_length-le}
+use lib.ListN.{length, get_or, set, length-set, drop_of_length-le}
 use lib.Seq.{append_snoc, drop-cons, drop-set-lt, set-get_or, take_all, take-suc-set}
-use borrow.Author.Rules.{rules}
-use Rattle.mos6502.specs.Class.{manual_class}
-use Rattle.image.specs.declared.Bounds.{Bounds}
-use Rattle.image.specs.declared.Address.{Address}
-use Rattle.address_set.specs.Map.{has}
-use Rattle.records.specs.Packed.{flag, address_of}
-use Rattle.weights.specs.Weights.{is_recorded, raised, raised_by}
+use Rattle.records.specs.Packed.{address_of}
+use Rattle.weights.specs.Weights.{raised}
 use Rattle.weights.proofs.Raising.{raised_none}
 use Rattle.weights.proofs.raise_recorded.Invariants.{more, raised_from}
 use Rattle.weights.proofs.raise_recorded.Goals as goal

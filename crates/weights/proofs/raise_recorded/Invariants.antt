@@ -1,20 +1,14 @@
 -- What each turn of `weights::raise_recorded` keeps.
-use mathlib.Core.Path.{◌≡◌, refl, sym, ◌∙◌}
-use mathlib.Core.List.{List, ◌++◌, append-nil}
-use mathlib.Core.Logic.{⊎_elim}
-use Prim.Native.Nat.{ℕ, suc, ◌+◌, ◌-◌, ◌<◌}
-use native.Mathlib.Numerals.{add-one}
-use native.Mathlib.Omega.{arith}
-use lib.ListN.{length, get_or, take, drop, set, length-set, drop_of_length-le}
-use lib.Seq.{append_snoc, drop-cons, drop-set-lt, set-get_or, take_all, take-suc-set}
-use borrow.Author.Rules.{rules}
+use mathlib.Core.Path.{◌≡◌}
+use mathlib.Core.List.{List, ◌++◌}
+use Prim.Native.Nat.{ℕ, ◌-◌}
+use lib.ListN.{length, take, drop}
 use Rattle.mos6502.specs.Class.{manual_class}
 use Rattle.image.specs.declared.Bounds.{Bounds}
 use Rattle.image.specs.declared.Address.{Address}
 use Rattle.address_set.specs.Map.{has}
-use Rattle.records.specs.Packed.{flag, address_of}
-use Rattle.weights.specs.Weights.{is_recorded, raised, raised_by}
-use Rattle.weights.proofs.Raising.{raised_none}
+use Rattle.records.specs.Packed.{flag}
+use Rattle.weights.specs.Weights.{is_recorded, raised_by}
 use Rattle.weights.proofs.raise_recorded.Given as goal
 
 -- one where something is recorded at the address

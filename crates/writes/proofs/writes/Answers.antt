@@ -1,6 +1,5 @@
 -- `writes::writes` meets its contract: what is packed in the table is unpacked again.
 use mathlib.Core.Path.{◌∙◌}
-use borrow.Author.Rules.{rules}
 use Rattle.writes.specs.Writes.{manual_writes}
 use Rattle.writes.proofs.Table.{width_back}
 use Rattle.writes.proofs.writes.Goals as goal

@@ -1,5 +1,4 @@
 -- `cause::RefusalCause::slug` meets its contract: in each arm the cause is known, and its text's bytes are computed.
-use borrow.Author.Rules.{rules}
 use Rattle.cause.proofs.RefusalCause.slug.Goals as goal
 
 pub returns-in-IllegalOpcode : goal.returns-in-IllegalOpcode

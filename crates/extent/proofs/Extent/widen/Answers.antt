@@ -1,5 +1,4 @@
 -- `extent::Extent::widen` meets its contract: `min` and `max` give each end.
-use borrow.Author.Rules.{rules}
 use Rattle.extent.proofs.Extent.widen.Goals as goal
 
 pub returns : goal.returns

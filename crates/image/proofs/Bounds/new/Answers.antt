@@ -1,5 +1,5 @@
 -- `image::Bounds::new` meets its contract: `size - 1` is compared with the room above `load`, so that no sum can overflow.
-use Rattle.std.proofs.Common.{◌≡◌, ◌+◌, ◌-◌, arith, rules, eq-eqb, ne_eqb, le-leb}
+use Rattle.std.proofs.Common.{◌≡◌, ◌+◌, ◌-◌, arith, eq-eqb, ne_eqb, le-leb}
 use borrow.Author.Tests.{lt-leb}
 use Rattle.image.proofs.Bounds.new.Goals as goal
 

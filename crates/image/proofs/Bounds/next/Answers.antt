@@ -1,5 +1,5 @@
 -- `image::Bounds::next` meets its contract: past 0xFFFF there is nothing inside, and elsewhere `inside` tells.
-use Rattle.std.proofs.Common.{◌≡◌, ◌+◌, false, sym, ◌∙◌, arith, rules}
+use Rattle.std.proofs.Common.{◌≡◌, ◌+◌, false, sym, ◌∙◌, arith}
 use Rattle.image.specs.Image.{inside}
 use Rattle.image.proofs.Inside.{inside_no}
 use Rattle.image.proofs.Bounds.next.Goals as goal
