@@ -1,4 +1,4 @@
-/* Prints the guarded span and the diagnosis of two small images at 0xC000. README.md, "From C", builds and runs it. */
+/* Prints the guarded span and the diagnosis of two small images at 0xC000. README.md, "Use it from C", builds and runs it. */
 #include <stdio.h>
 #include "image_reach.h"
 

@@ -1,4 +1,4 @@
-//! Times the original and the port on the same inputs, call by call, in turns, and prints the ratio. See README.md beside it.
+//! Times the original and the port on the same inputs, call by call, in turns, and prints the ratio. See docs/SPEED.md.
 
 use std::hint::black_box;
 use std::time::{Duration, Instant};
