@@ -4,9 +4,9 @@
 
 ghost use Rattle.std.specs.Prelude.{◌+◌, ◌≤◌, length};
 
-use libc::STDOUT_FILENO;
 use report::{LINE_END, SPACE};
 use span::SpanAnswer;
+use std::io;
 
 // ── lines, each put at `n`; where the next one goes ──
 
@@ -67,7 +67,7 @@ fn put_tracked(out: &mut [u8], n: usize, zp: &[u8; 256], marks: &[u8; 256], z: u
 // ── cases ──
 
 // What the four calls answer.
-fn case(name: &[u8], image: &[u8], load: u16, entries: &[u16])
+fn case(rt: &impl Print, name: &[u8], image: &[u8], load: u16, entries: &[u16]) -> io::Result<()>
     requires { length name.now ≤ 32 }
 {
     let mut out = [0u8; 1024];
@@ -78,49 +78,52 @@ fn case(name: &[u8], image: &[u8], load: u16, entries: &[u16])
     let c = put_counted(&mut out, b, b"GUARDED", guarded);
     let d = put_diagnosed(&mut out, c, image, load, entries);
     let end = put_stored(&mut out, d, image, load, entries);
-    io::write_all(STDOUT_FILENO, &out[..end]);
+    rt.write_all(&out[..end])
 }
 
 // A case at 01's load address and entry.
-fn plain_case(name: &[u8], image: &[u8])
+fn plain_case(rt: &impl Print, name: &[u8], image: &[u8]) -> io::Result<()>
     requires { length name.now ≤ 32 }
 {
-    case(name, image, 0xC000, &[0xC000]);
+    case(rt, name, image, 0xC000, &[0xC000])
 }
 
 // The cases that 01 stars.
-fn starred_cases() {
-    case(b"empty", &[], 0xC000, &[]);
-    case(b"two bytes at FFFF", &[0x60, 0x60], 0xFFFF, &[0xC000]);
-    plain_case(b"60", &[0x60]);
-    plain_case(b"EA", &[0xEA]);
-    plain_case(b"20 00 10", &[0x20, 0x00, 0x10]);
-    plain_case(b"4C 00 10", &[0x4C, 0x00, 0x10]);
-    plain_case(b"4C E4 FF", &[0x4C, 0xE4, 0xFF]);
+fn starred_cases(rt: &impl Print) -> io::Result<()> {
+    case(rt, b"empty", &[], 0xC000, &[])?;
+    case(rt, b"two bytes at FFFF", &[0x60, 0x60], 0xFFFF, &[0xC000])?;
+    plain_case(rt, b"60", &[0x60])?;
+    plain_case(rt, b"EA", &[0xEA])?;
+    plain_case(rt, b"20 00 10", &[0x20, 0x00, 0x10])?;
+    plain_case(rt, b"4C 00 10", &[0x4C, 0x00, 0x10])?;
+    plain_case(rt, b"4C E4 FF", &[0x4C, 0xE4, 0xFF])?;
     plain_case(
+        rt,
         b"BD 04 C0 60 11 22 33",
         &[0xBD, 0x04, 0xC0, 0x60, 0x11, 0x22, 0x33],
-    );
+    )?;
     plain_case(
+        rt,
         b"BD 07 C0 60 11 22 33",
         &[0xBD, 0x07, 0xC0, 0x60, 0x11, 0x22, 0x33],
-    );
+    )?;
     case(
+        rt,
         b"11 22 BD FF BF 60",
         &[0x11, 0x22, 0xBD, 0xFF, 0xBF, 0x60],
         0xC000,
         &[0xC002],
-    );
-    plain_case(b"D0 FE 60", &[0xD0, 0xFE, 0x60]);
-    plain_case(b"D0 7F 60", &[0xD0, 0x7F, 0x60]);
-    case(b"10 80 60 at 0000", &[0x10, 0x80, 0x60], 0, &[0]);
-    plain_case(b"91 FF 60", &[0x91, 0xFF, 0x60]);
-    plain_case(b"91 FB", &[0x91, 0xFB]);
-    plain_case(b"9D F0 FF 60", &[0x9D, 0xF0, 0xFF, 0x60]);
+    )?;
+    plain_case(rt, b"D0 FE 60", &[0xD0, 0xFE, 0x60])?;
+    plain_case(rt, b"D0 7F 60", &[0xD0, 0x7F, 0x60])?;
+    case(rt, b"10 80 60 at 0000", &[0x10, 0x80, 0x60], 0, &[0])?;
+    plain_case(rt, b"91 FF 60", &[0x91, 0xFF, 0x60])?;
+    plain_case(rt, b"91 FB", &[0x91, 0xFB])?;
+    plain_case(rt, b"9D F0 FF 60", &[0x9D, 0xF0, 0xFF, 0x60])
 }
 
 // What the tracker knows after a run that hides a load behind the operand of a BIT.
-fn tracker_case() {
+fn tracker_case(rt: &impl Print) -> io::Result<()> {
     let state = tracker::track_immediates(b"\x85\xFB\x2C\xA9\x01\x85\x10");
     let zp = state.zp;
     let marks = state.marks;
@@ -128,45 +131,47 @@ fn tracker_case() {
     let a = put_name(&mut out, b"85 FB 2C A9 01 85 10");
     let b = put_tracked(&mut out, a, &zp, &marks, 0x10);
     let end = put_tracked(&mut out, b, &zp, &marks, 0xFB);
-    io::write_all(STDOUT_FILENO, &out[..end]);
+    rt.write_all(&out[..end])
 }
 
 // As many instructions as a walk may meet.
-fn full_walk() {
+fn full_walk(rt: &impl Print) -> io::Result<()> {
     let mut image = [0xEAu8; 4096];
     image[4095] = 0x60;
-    plain_case(b"4095 EA, 60", &image);
+    plain_case(rt, b"4095 EA, 60", &image)
 }
 
 // One more.
-fn walk_past_its_limit() {
+fn walk_past_its_limit(rt: &impl Print) -> io::Result<()> {
     let mut image = [0xEAu8; 4097];
     image[4096] = 0x60;
-    plain_case(b"4096 EA, 60", &image);
+    plain_case(rt, b"4096 EA, 60", &image)
 }
 
 // The two entries meet more together, and each alone does not.
-fn two_long_entries() {
+fn two_long_entries(rt: &impl Print) -> io::Result<()> {
     let mut image = [0xEAu8; 5000];
     image[2499] = 0x60;
     image[4999] = 0x60;
-    case(b"2499 EA, 60, twice", &image, 0x1000, &[0x1000, 0x19C4]);
+    case(rt, b"2499 EA, 60, twice", &image, 0x1000, &[0x1000, 0x19C4])
 }
 
-fn main() {
-    starred_cases();
-    tracker_case();
-    full_walk();
-    walk_past_its_limit();
-    two_long_entries();
-    case(b"60, entries 0 and 0", &[0x60], 0xC000, &[0, 0]);
+fn main(rt: HostRuntime) -> io::Result<()> {
+    starred_cases(&rt)?;
+    tracker_case(&rt)?;
+    full_walk(&rt)?;
+    walk_past_its_limit(&rt)?;
+    two_long_entries(&rt)?;
+    case(&rt, b"60, entries 0 and 0", &[0x60], 0xC000, &[0, 0])?;
     // A loop that stores page after page, up to the page that it compares with.
     plain_case(
+        &rt,
         b"store loop to C5",
         b"\xA9\x00\x85\xFB\xA9\xC1\x85\xFC\x91\xFB\xE6\xFC\xA5\xFC\xC9\xC5\xD0\xF6\x60",
-    );
+    )?;
     plain_case(
+        &rt,
         b"store loop to C1",
         b"\xA9\x00\x85\xFB\xA9\xC1\x85\xFC\x91\xFB\xE6\xFC\xA5\xFC\xC9\xC1\xD0\xF6\x60",
-    );
+    )
 }

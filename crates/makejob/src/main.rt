@@ -2,11 +2,15 @@
 
 #![tactic(auto)]
 
-ghost use Rattle.std.specs.Prelude.{◌≡◌, ◌≤◌, length, get_or};
+ghost use Rattle.std.specs.Prelude.{◌≡◌, ◌<◌, ◌≤◌, length, get_or, take, true, IfSome};
+ghost use Rattle.std.specs.Io.KnownBytes.{Consumes, IsAtEnd, Keeps};
 ghost use Rattle.makejob.specs.Words.{digit_of, mark_of, address_of, input_of};
 
 use job::WriteAnswer;
-use libc::{STDERR_FILENO, STDIN_FILENO, STDOUT_FILENO};
+use reading::read_full;
+use std::env::{Env, FillError};
+use std::io;
+use std::io::{Read, Write};
 
 // What a word spells.
 #[derive(Clone, Copy)]
@@ -31,6 +35,9 @@ pub enum Input {
 
 // The length of the largest job.
 const MOST: usize = 16 + 2 * job::MOST_ENTRIES + job::MOST_BYTES;
+
+// The longest argument that is read whole.
+const MOST_WORD: usize = 4096;
 
 // The value of a hexadecimal digit, or 16.
 fn digit(c: u8) -> u8
@@ -102,127 +109,176 @@ fn image_in(load: Load, bytes: &[u8]) -> Input
     }
 }
 
-// Says that argument `i` is not an address.
-fn say_other(i: usize, word: &[u8]) {
-    io::write_all(STDERR_FILENO, b"makejob: argument ");
-    io::print_decimal(STDERR_FILENO, i as u64);
-    io::write_all(STDERR_FILENO, b" is not an address: ");
-    io::write_all(STDERR_FILENO, word);
-    io::write_all(STDERR_FILENO, b"\n");
+// How many words the program was started with, its own name among them.
+fn word_count(rt: &impl Env) -> usize {
+    for i in 0..usize::MAX {
+        if let Err(FillError::NotPresent) = rt.arg(i, &mut []) {
+            return i;
+        }
+    }
+    usize::MAX
+}
+
+// Puts argument `i` at the front of the buffer, and answers its length: 0 where it is missing or longer than the buffer.
+fn read_word(rt: &impl Env, i: usize, word: &mut [u8]) -> usize
+    ensures { result ≤ length word.new }
+{
+    match rt.arg(i, word) {
+        Ok(n) => n,
+        Err(_) => 0,
+    }
+}
+
+// Says that argument `i` is not an address. The word need not be text.
+fn say_other(errors: &impl Print, i: usize, word: &[u8]) -> io::Result<()> {
+    print!(errors; "makejob: argument {i} is not an address: ")?;
+    errors.write_all(word)?;
+    errors.write_all(b"\n")
 }
 
 // The address that argument `i` spells.
-fn entry(i: usize) -> Parsed {
-    let mut word = io::buffer();
-    let n = os::arg(i, &mut word);
+fn entry(rt: &impl Env, errors: &impl Print, i: usize) -> io::Result<Parsed> {
+    let mut word = [0u8; MOST_WORD];
+    let n = read_word(rt, i, &mut word);
     let parsed = address(&word[..n]);
     if let Parsed::Other = parsed {
-        say_other(i, &word[..n]);
+        say_other(errors, i, &word[..n])?;
     }
-    parsed
+    Ok(parsed)
 }
 
 // Reads the entries, which begin at argument 2. Whether all are addresses.
-fn read_entries(count: usize, entries: &mut [u16; 1024]) -> bool
+fn read_entries(
+    rt: &impl Env,
+    errors: &impl Print,
+    count: usize,
+    entries: &mut [u16; 1024],
+) -> io::Result<bool>
     requires { count ≤ 1024 }
     ensures { length entries.new ≡ 1024 }
 {
     let slots = &mut entries[..];
     for i in 0..count {
-        let Parsed::Address(a) = entry(i + 2) else {
-            return false;
+        let Parsed::Address(a) = entry(rt, errors, i + 2)? else {
+            return Ok(false);
         };
         slots[i] = a;
     }
-    true
+    Ok(true)
 }
 
-// Whether standard input has ended. Where it cannot be read, it has not.
-fn is_ended() -> bool {
+// Whether an input has ended. Where it cannot be read, it has not.
+fn is_ended<I: Read>(input: &mut I) -> bool
+    ensures { result ≡ true → Keeps (I.remaining input.old) (I.remaining input.new) × IsAtEnd (I.remaining input.new) }
+{
     let mut one = [0u8; 1];
-    libc::read(STDIN_FILENO, &mut one) == 0
+    match input.read(&mut one) {
+        Ok(n) => n == 0,
+        Err(_) => false,
+    }
 }
 
-// Writes the job to standard output, by way of a lent buffer.
-fn write(load: u16, entries: &[u16], image: &[u8], out: &mut [u8]) {
+// Reads an input to its end or until the buffer is full, and answers how long it is: nothing where it cannot be read.
+fn read_input<I: Read>(input: &mut I, bytes: &mut [u8]) -> Option<usize>
+    ensures within { IfSome result (λ n. n ≤ length bytes.new) }
+    ensures bytes { IfSome result (λ n. Consumes (I.remaining input.old) (I.remaining input.new) (take n bytes.new)) }
+    ensures short_only_at_end { IfSome result (λ n. n < length bytes.new → IsAtEnd (I.remaining input.new)) }
+{
+    let n = read_full(input, bytes).ok()?;
+    if n < bytes.len() && !is_ended(input) {
+        return None;
+    }
+    Some(n)
+}
+
+// Writes the job to the output, by way of a lent buffer.
+fn write(
+    output: &mut impl Write,
+    errors: &impl Print,
+    load: u16,
+    entries: &[u16],
+    image: &[u8],
+    out: &mut [u8],
+) -> io::Result<()> {
     match job::write_job(load, entries, image, out) {
         WriteAnswer::Written(n) => {
-            if !io::write_all(STDOUT_FILENO, &out[..n]) {
-                io::write_all(
-                    STDERR_FILENO,
-                    b"makejob: standard output cannot be written\n",
-                );
+            if output.write_all(&out[..n]).is_err() {
+                return println!(errors; "makejob: standard output cannot be written");
             }
+            Ok(())
         }
         WriteAnswer::TooLarge => {
-            io::write_all(
-                STDERR_FILENO,
-                b"makejob: the image is longer than 49,152 bytes\n",
-            );
+            println!(errors; "makejob: the image is longer than 49,152 bytes")
         }
         // Not met: the buffer holds the largest job.
-        WriteAnswer::Short(_) => {}
+        WriteAnswer::Short(_) => Ok(()),
     }
 }
 
 // Writes the job of what was read.
-fn convert(load: Load, entries: &[u16], bytes: &[u8], out: &mut [u8]) {
+fn convert(
+    output: &mut impl Write,
+    errors: &impl Print,
+    load: Load,
+    entries: &[u16],
+    bytes: &[u8],
+    out: &mut [u8],
+) -> io::Result<()> {
     match image_in(load, bytes) {
-        Input::Image(a, from) => write(a, entries, &bytes[from..], out),
-        Input::Cut => {
-            io::write_all(
-                STDERR_FILENO,
-                b"makejob: a prg begins with its load address, two bytes\n",
-            );
-        }
+        Input::Image(a, from) => write(output, errors, a, entries, &bytes[from..], out),
+        Input::Cut => { println!(errors; "makejob: a prg begins with its load address, two bytes") }
     }
 }
 
 // Reads entries and image, and writes their job.
-fn make(load: Load, count: usize)
+fn make(
+    rt: &(impl Env + io::Input + Print),
+    errors: &impl Print,
+    load: Load,
+    count: usize,
+) -> io::Result<()>
     requires { count ≤ 1024 }
 {
     let mut entries = [0u16; 1024];
-    if !read_entries(count, &mut entries) {
-        return;
+    if !read_entries(rt, errors, count, &mut entries)? {
+        return Ok(());
     }
     // Longer than any image.
-    let mut bytes = io::large_buffer();
-    let n = io::read_full(STDIN_FILENO, &mut bytes);
-    if n < 65536 && !is_ended() {
-        io::write_all(STDERR_FILENO, b"makejob: standard input cannot be read\n");
-        return;
-    }
+    let mut bytes = [0u8; 65536];
+    let Some(n) = read_input(&mut rt.reader(), &mut bytes) else {
+        return println!(errors; "makejob: standard input cannot be read");
+    };
     let mut out = [0u8; MOST];
-    convert(load, &entries[..count], &bytes[..n], &mut out);
+    convert(
+        &mut io::writer(rt),
+        errors,
+        load,
+        &entries[..count],
+        &bytes[..n],
+        &mut out,
+    )
 }
 
-fn main() {
-    let words = os::arg_count();
+fn main(rt: HostRuntime) -> io::Result<()> {
+    let errors = rt.stderr();
+    let words = word_count(&rt);
     if words < 2 {
-        io::write_all(
-            STDERR_FILENO,
-            b"usage: makejob LOAD|prg ENTRY.. < IMAGE > JOB\n",
-        );
-        return;
+        return println!(errors; "usage: makejob LOAD|prg ENTRY.. < IMAGE > JOB");
     }
     if words == 2 {
-        io::write_all(STDERR_FILENO, b"makejob: no entry\n");
-        return;
+        return println!(errors; "makejob: no entry");
     }
     let count = words - 2;
     if count > job::MOST_ENTRIES {
-        io::write_all(STDERR_FILENO, b"makejob: more than 1,024 entries\n");
-        return;
+        return println!(errors; "makejob: more than 1,024 entries");
     }
-    let mut word = io::buffer();
-    let n = os::arg(1, &mut word);
-    if check::same(&word[..n], b"prg") {
-        make(Load::Prg, count);
-        return;
+    let mut word = [0u8; MOST_WORD];
+    let n = read_word(&rt, 1, &mut word);
+    if &word[..n] == b"prg".as_slice() {
+        return make(&rt, &errors, Load::Prg, count);
     }
     match address(&word[..n]) {
-        Parsed::Address(a) => make(Load::Told(a), count),
-        Parsed::Other => say_other(1, &word[..n]),
+        Parsed::Address(a) => make(&rt, &errors, Load::Told(a), count),
+        Parsed::Other => say_other(&errors, 1, &word[..n]),
     }
 }

@@ -2,19 +2,18 @@
 
 #![tactic(auto)]
 
-use libc::{STDIN_FILENO, STDOUT_FILENO};
+use reading::read_full;
 use report::ReportAnswer;
+use std::io;
 
-fn main() {
+fn main(rt: HostRuntime) -> io::Result<()> {
     // One byte more than the longest job has, so that a longer input is seen to be too long.
     let mut bytes = [0u8; 51217];
-    let n = io::read_full(STDIN_FILENO, &mut bytes);
+    let n = read_full(&mut rt.reader(), &mut bytes)?;
     // As long as the longest report.
     let mut out = [0u8; 262144];
     match report::report(&bytes[..n], &mut out) {
-        ReportAnswer::Written(m) => {
-            io::write_all(STDOUT_FILENO, &out[..m]);
-        }
-        ReportAnswer::Short(_) => {}
+        ReportAnswer::Written(m) => rt.write_all(&out[..m]),
+        ReportAnswer::Short(_) => Ok(()),
     }
 }

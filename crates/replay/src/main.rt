@@ -6,9 +6,11 @@ ghost use Rattle.std.specs.Prelude.{◌≡◌, ◌+◌, ◌*◌, ◌≤◌, leng
 ghost use Rattle.report.specs.Report.{Enough, EnoughStores};
 
 use diagnosis::DiagAnswer;
-use libc::{STDIN_FILENO, STDOUT_FILENO};
+use reading::read_full;
 use report::{LINE_END, SPACE};
 use span::{EndAnswer, SpanAnswer};
+use std::io;
+use std::io::Read;
 use stores::StoresAnswer;
 use tracker::{Known, Registers};
 
@@ -418,8 +420,9 @@ fn decode_entries(bytes: &[u8], count: usize, entries: &mut [u16])
     }
 }
 
-// Answers an input whose entries and image are in `bytes`. Whether its answers could be written.
+// Answers an input whose entries and image are in `bytes`.
 fn answer(
+    rt: &impl Print,
     load: u16,
     count: usize,
     bytes: &[u8],
@@ -427,7 +430,7 @@ fn answer(
     exact: &mut [u64; MOST_REFUSALS + SPARE],
     other: &mut [u64; MOST_REFUSALS + SPARE],
     out: &mut [u8; MOST_TEXT],
-) -> bool
+) -> io::Result<()>
     requires { (count ≤ 70000) × (2 * count ≤ length bytes.now) }
 {
     // As slices, they tell the proof their lengths.
@@ -444,44 +447,48 @@ fn answer(
         &mut other[..],
     );
     let answers = &text[..];
-    io::write_all(STDOUT_FILENO, &answers[..n])
+    rt.write_all(&answers[..n])
 }
 
 // Ends the stream at an input that is cut short or too large.
-fn cut() -> bool {
-    io::write_all(STDOUT_FILENO, b"CUT\n");
-    false
+fn cut(rt: &impl Print) -> io::Result<bool> {
+    rt.write_all(b"CUT\n")?;
+    Ok(false)
 }
 
 // Answers the next input. Whether there may be another one.
 fn answer_next(
+    rt: &impl Print,
+    input: &mut impl Read,
     bytes: &mut [u8; 2 * MOST_ENTRIES + MOST_BYTES],
     entries: &mut [u16; MOST_ENTRIES],
     exact: &mut [u64; MOST_REFUSALS + SPARE],
     other: &mut [u64; MOST_REFUSALS + SPARE],
     out: &mut [u8; MOST_TEXT],
-) -> bool {
+) -> io::Result<bool> {
     let mut header = [0u8; HEADER];
-    let got = io::read_full(STDIN_FILENO, &mut header);
+    let got = read_full(input, &mut header)?;
     if got == 0 {
-        return false;
+        return Ok(false);
     }
     let load = job::word16(&header, 0);
     let count = job::word32(&header, 2) as usize;
     let size = job::word32(&header, 6) as usize;
     if got < HEADER || count > MOST_ENTRIES || size > MOST_BYTES {
-        return cut();
+        return cut(rt);
     }
     let end = 2 * count + size;
     let body = &mut bytes[..];
-    if io::read_full(STDIN_FILENO, &mut body[..end]) < end {
-        return cut();
+    if read_full(input, &mut body[..end])? < end {
+        return cut(rt);
     }
     let read = &body[..];
-    answer(load, count, &read[..end], entries, exact, other, out)
+    answer(rt, load, count, &read[..end], entries, exact, other, out)?;
+    Ok(true)
 }
 
-fn main() {
+fn main(rt: HostRuntime) -> io::Result<()> {
+    let mut input = rt.reader();
     // Lent to every turn, and not made anew in each: they are large, and most inputs are small.
     let mut bytes = [0u8; 2 * MOST_ENTRIES + MOST_BYTES];
     let mut entries = [0u16; MOST_ENTRIES];
@@ -490,7 +497,18 @@ fn main() {
     let mut out = [0u8; MOST_TEXT];
     // A proved loop has to end, and nothing says that a stream does. So the turns are counted down, from a number that no run uses up.
     let mut turns = u64::MAX;
-    while turns > 0 && answer_next(&mut bytes, &mut entries, &mut exact, &mut other, &mut out) {
+    while turns > 0
+        && answer_next(
+            &rt,
+            &mut input,
+            &mut bytes,
+            &mut entries,
+            &mut exact,
+            &mut other,
+            &mut out,
+        )?
+    {
         turns -= 1;
     }
+    Ok(())
 }

@@ -1,0 +1,2 @@
+-- What a partly filled buffer holds.
+pub mod Parts
