@@ -29,23 +29,31 @@ module _ (w : After-write_extent-written) where
       w.write_extent-written.new.slots w.diagnose-diag.ensures w.write_extent-written.ensures w.requires
 
 pub put_span-a-requires : goal.put_span-a-requires
-put_span-a-requires c = first_room (spans_line (goal.at.put_span-a-requires c).After-write_extent-written) (guarded_line (goal.at.put_span-a-requires c).After-write_extent-written) (diag_text (goal.at.put_span-a-requires c).After-write_extent-written) (stores_text (goal.at.put_span-a-requires c).After-write_extent-written) (room (goal.at.put_span-a-requires c).After-write_extent-written)
+put_span-a-requires c =
+    let after = (goal.at.put_span-a-requires c).After-write_extent-written in
+    first_room (spans_line after) (guarded_line after) (diag_text after) (stores_text after) (room after)
 
 pub put_span-b-requires : goal.put_span-b-requires
-put_span-b-requires c = second_room (spans_line (goal.at.put_span-b-requires c).After-write_extent-written) (guarded_line (goal.at.put_span-b-requires c).After-write_extent-written) (diag_text (goal.at.put_span-b-requires c).After-write_extent-written) (stores_text (goal.at.put_span-b-requires c).After-write_extent-written) (room (goal.at.put_span-b-requires c).After-write_extent-written) c.put_span-a.ensures
+put_span-b-requires c =
+    let after = (goal.at.put_span-b-requires c).After-write_extent-written in
+    second_room (spans_line after) (guarded_line after) (diag_text after) (stores_text after) (room after) c.put_span-a.ensures
 
 pub put_diag-c-requires : goal.put_diag-c-requires
-put_diag-c-requires c = (third_room (spans_line (goal.at.put_diag-c-requires c).After-write_extent-written) (guarded_line (goal.at.put_diag-c-requires c).After-write_extent-written) (diag_text (goal.at.put_diag-c-requires c).After-write_extent-written) (stores_text (goal.at.put_diag-c-requires c).After-write_extent-written) (room (goal.at.put_diag-c-requires c).After-write_extent-written) c.put_span-a.ensures c.put_span-b.ensures, (refusals_kept c.args.image.now c.args.load c.args.entries.now (replicate 5122 0) c.diagnose-diag.new.slots c.diagnose-diag.result c.diagnose-diag.ensures).1)
+put_diag-c-requires c =
+    let after = (goal.at.put_diag-c-requires c).After-write_extent-written in
+    (third_room (spans_line after) (guarded_line after) (diag_text after) (stores_text after) (room after) c.put_span-a.ensures c.put_span-b.ensures, (refusals_kept c.args.image.now c.args.load c.args.entries.now (replicate 5122 0) c.diagnose-diag.new.slots c.diagnose-diag.result c.diagnose-diag.ensures).1)
 
 pub put_extent-requires : goal.put_extent-requires
-put_extent-requires c = (
-  fourth_room (spans_line (goal.at.put_extent-requires c).After-write_extent-written) (guarded_line (goal.at.put_extent-requires c).After-write_extent-written) (diag_text (goal.at.put_extent-requires c).After-write_extent-written) (stores_text (goal.at.put_extent-requires c).After-write_extent-written) (room (goal.at.put_extent-requires c).After-write_extent-written) c.put_span-a.ensures c.put_span-b.ensures c.put_diag-c.ensures,
-  (spans_kept c.args.image.now c.args.load c.args.entries.now (replicate 4096 0) c.write_extent-written.new.slots c.write_extent-written.result c.write_extent-written.ensures).1,
-)
+put_extent-requires c =
+    let after = (goal.at.put_extent-requires c).After-write_extent-written in (
+      fourth_room (spans_line after) (guarded_line after) (diag_text after) (stores_text after) (room after) c.put_span-a.ensures c.put_span-b.ensures c.put_diag-c.ensures,
+      (spans_kept c.args.image.now c.args.load c.args.entries.now (replicate 4096 0) c.write_extent-written.new.slots c.write_extent-written.result c.write_extent-written.ensures).1,
+    )
 
 pub returns : goal.returns
 returns c =
-    let all = all_put (spans_line (goal.at.returns c).After-write_extent-written) (guarded_line (goal.at.returns c).After-write_extent-written) (diag_text (goal.at.returns c).After-write_extent-written) (stores_text (goal.at.returns c).After-write_extent-written) (room (goal.at.returns c).After-write_extent-written) c.put_span-a.ensures c.put_span-b.ensures c.put_diag-c.ensures c.put_extent.ensures in
+    let after = (goal.at.returns c).After-write_extent-written in
+    let all = all_put (spans_line after) (guarded_line after) (diag_text after) (stores_text after) (room after) c.put_span-a.ensures c.put_span-b.ensures c.put_diag-c.ensures c.put_extent.ensures in
     record {
       fits = all.1;
       tells =
