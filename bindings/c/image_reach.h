@@ -1,9 +1,9 @@
 /*
  * image_reach.h: the part of a 6502 image that calls can reach.
  *
- * Link with libimage_reach.a, which `rt lib` in crates/image_reach writes to its out/ (x86-64 Linux):
+ * Link with libimage_reach.a, which `tools/staticlib` writes to target/staticlib (x86-64 Linux):
  *
- *     cc -Ibindings/c program.c crates/image_reach/out/libimage_reach.a
+ *     cc -Ibindings/c program.c target/staticlib/libimage_reach.a
  *
  * An image is `length` bytes that stand in memory from the address `load` on. Entries are the addresses at which it is called.
  * A list is a pointer and a number of elements; the pointer of an empty list is not used and may be NULL. Every other pointer

@@ -1,4 +1,4 @@
-//! Finds libimage_reach.a: in the folder that IMAGE_REACH_LIB_DIR names, or where `rt lib` writes it, in crates/image_reach/out.
+//! Finds libimage_reach.a: in the folder that IMAGE_REACH_LIB_DIR names, or where `tools/staticlib` writes it.
 
 use std::env;
 use std::path::PathBuf;
@@ -6,7 +6,7 @@ use std::path::PathBuf;
 fn main() {
     let folder = match env::var_os("IMAGE_REACH_LIB_DIR") {
         Some(folder) => PathBuf::from(folder),
-        None => PathBuf::from(env::var_os("CARGO_MANIFEST_DIR").unwrap()).join("../../crates/image_reach/out"),
+        None => PathBuf::from(env::var_os("CARGO_MANIFEST_DIR").unwrap()).join("../../target/staticlib"),
     };
     let library = folder.join("libimage_reach.a");
     if env::var("CARGO_CFG_TARGET_ARCH").as_deref() != Ok("x86_64") {
@@ -14,7 +14,7 @@ fn main() {
     }
     if !library.is_file() {
         panic!(
-            "{} is missing: run `rt lib` in crates/image_reach of the repository, or set IMAGE_REACH_LIB_DIR to its folder",
+            "{} is missing: run `tools/staticlib` in the repository, or set IMAGE_REACH_LIB_DIR to its folder",
             library.display()
         );
     }

@@ -4,7 +4,7 @@
 use std::collections::BTreeMap;
 use std::process::exit;
 
-const RATTLE: &str = include_str!("../../crates/image_reach/src/lib.rt");
+const RATTLE: &str = include_str!("../../crates/image_reach_c/src/lib.rt");
 const C: &str = include_str!("../../bindings/c/image_reach.h");
 const RUST: &str = include_str!("../../bindings/rust/src/lib.rs");
 

@@ -1,4 +1,4 @@
-//! The face for other languages: span, diagnosis, stores and tracker as C functions on numbers and lists. Each answers as the plain call does.
+//! The face for other languages: span, diagnosis, stores and tracker as functions on numbers and lists. Each answers as the plain call does. `image_reach_c` exports them to C.
 
 #![tactic(auto)]
 
@@ -183,8 +183,7 @@ fn tell_span(answer: SpanAnswer, low: &mut u16, high: &mut u16, count: &mut u32)
 // ── the calls ──
 
 // The plain span: low, high and the number of reachable instructions.
-#[unsafe(no_mangle)]
-pub extern "C" fn image_reach_span(
+pub fn image_reach_span(
     image: &[u8],
     load: u16,
     entries: &[u16],
@@ -198,8 +197,7 @@ pub extern "C" fn image_reach_span(
 }
 
 // The guarded span, told in the same way.
-#[unsafe(no_mangle)]
-pub extern "C" fn image_reach_guarded_span(
+pub fn image_reach_guarded_span(
     image: &[u8],
     load: u16,
     entries: &[u16],
@@ -213,8 +211,7 @@ pub extern "C" fn image_reach_guarded_span(
 }
 
 // The plain span's high alone.
-#[unsafe(no_mangle)]
-pub extern "C" fn image_reach_end(image: &[u8], load: u16, entries: &[u16], high: &mut u16) -> u32
+pub fn image_reach_end(image: &[u8], load: u16, entries: &[u16], high: &mut u16) -> u32
     ensures { TellsEnd image.now load entries.now result high.new }
 {
     let answer = span::reachable_end(image, load, entries);
@@ -223,8 +220,7 @@ pub extern "C" fn image_reach_end(image: &[u8], load: u16, entries: &[u16], high
 }
 
 // The diagnosis: the range, the number of addresses met, and the number of records, which the lent list gets. On 6 `records` is the number needed.
-#[unsafe(no_mangle)]
-pub extern "C" fn image_reach_diagnose(
+pub fn image_reach_diagnose(
     image: &[u8],
     load: u16,
     entries: &[u16],
@@ -246,8 +242,7 @@ pub extern "C" fn image_reach_diagnose(
 }
 
 // The store spans: the number of records, which the lent list gets. On 6 `records` is the number needed.
-#[unsafe(no_mangle)]
-pub extern "C" fn image_reach_write_extent(
+pub fn image_reach_write_extent(
     image: &[u8],
     load: u16,
     entries: &[u16],
@@ -262,8 +257,7 @@ pub extern "C" fn image_reach_write_extent(
 }
 
 // The tracker: A, X and Y with a mark of 1 for each that is known, and the zero page with its marks. What is not known is 0.
-#[unsafe(no_mangle)]
-pub extern "C" fn image_reach_track_immediates(
+pub fn image_reach_track_immediates(
     code: &[u8],
     registers: &mut [u8; 3],
     known: &mut [u8; 3],
