@@ -5,15 +5,15 @@ usage: tools/port/spell.py [--list]      at the top of the repository, once, aft
 
 It turns each lower-case name that a file of specs/ or proofs/ declares, wherever it stands as a whole word in the .antt files and in the clauses, imports and comments
 of the .rt files. Texts in quotes stay, and in a comment a word with a dash, unless it stands in backticks. Names of types stay, as do the goals of a function's proof,
-which the toolchain names. It stops, and writes nothing, where two names would fall
-together, or where a new name stands already in a file that has the old one. --list prints the table and writes nothing. A second run changes nothing.
+which the toolchain names. It stops, and writes nothing, where two names would fall together, or where a new name stands already in a file that has the old one.
+--list prints the table and writes nothing. It is kept so that the port can be run again from the commit that docs/PORT.md begins with; a second run changes nothing.
 """
 import os
 import re
 import sys
 
 WORD = r"""[^\s(){}.;,@"«»`:]+"""
-DECLARED = re.compile(rf"(?m)^ *(?:(?:abbrev|unfoldable|pub|private) )*({WORD})(?: \{{[^{{}}\n]*\}}| \([^()\n]*\))* :[ \n](?! *tie\.)")
+DECLARED = re.compile(rf"(?m)^ *(?:(?:abbrev|unfoldable|pub|private) )*({WORD})(?: \{{[^{{}}\n]*\}}| \([^()\n]*\))* :[ \n](?! *(?:tie|goal)\.)")
 # Lemmas and local words that would fall together with a definition or with a word of the library.
 APART = {
     "all-inside": "all_inside_lem",

@@ -1,4 +1,5 @@
-//! The face for other languages: span, diagnosis, stores and tracker as functions on numbers and lists. Each answers as the plain call does. `image_reach_c` exports them to C.
+//! The face for other languages: span, diagnosis, stores and tracker as functions on numbers and lists. Each answers as the plain call does.
+//! `image_reach_c` exports them to C.
 
 #![tactic(auto)]
 

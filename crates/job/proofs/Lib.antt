@@ -2,5 +2,4 @@
 pub mod Words
 pub mod Parts
 pub mod Placing
-pub mod Room
 pub mod RoundTrip

@@ -7,7 +7,8 @@ ghost use Rattle.lists.specs.Lists.{scan};
 ghost use Rattle.address_set.specs.Map.{has};
 ghost use Rattle.tracker.specs.Track.{state_of};
 ghost use Rattle.resolver.specs.Resolve.{Blank};
-ghost use Rattle.pages.specs.Pages.{pointer_in, any_of, is_op, compared_at, pages_from, page_limit, Page, over_pages, up_to, down_to, span_from, indy_store_span};
+ghost use Rattle.pages.specs.Pages.{pointer_in, any_of, is_op, compared_at, pages_from, page_limit, Page};
+ghost use Rattle.pages.specs.Pages.{over_pages, up_to, down_to, span_from, indy_store_span};
 ghost use Rattle.pages.specs.Surveys.{Marks, AllMarked, Limits, AllLimited, habit_in};
 
 use address_set::Found;

@@ -1,7 +1,7 @@
--- Records written over a list of structs one by one: each goes into its own place, and the length stays.
+-- Records written over a list of structs one by one: each goes into its own place.
 use mathlib.Core.Path.{◌≡◌, refl, ap}
 use mathlib.Core.List.{List, [], ◌∷◌}
-use Prim.Native.Nat.{ℕ, zero, suc, ◌+◌, ◌≤◌, ◌<◌}
+use Prim.Native.Nat.{ℕ, zero, suc, ◌+◌, ◌<◌}
 use native.Mathlib.Nat.{not-suc-le-zero, le_of_suc-le-suc}
 use native.Mathlib.Omega.{arith}
 use lib.ListN.{length, get_or, set, take}
@@ -19,9 +19,3 @@ one_more (r ∷ records) (y ∷ out) (suc i) h k = ap {B = List ReachRefusal} (�
 pub over_next : (records : List ℕ) (out : List ReachRefusal) (i : ℕ) → i < length records → i < length out
     → set (over (take i records) out) i (refusal_of (get_or records i 0)) ≡ over (take (i + 1) records) out
 over_next records out i h k = let e : i + 1 ≡ suc i = omega arith in rw e (one_more records out i h k)
-
-pub over_length : (records : List ℕ) (out : List ReachRefusal) (i : ℕ) → length records ≤ length out → length (over (take i records) out) ≡ length out
-over_length records out zero h = refl
-over_length [] out (suc i) h = refl
-over_length (r ∷ records) [] (suc i) h = absurd (not-suc-le-zero h)
-over_length (r ∷ records) (y ∷ out) (suc i) h = ap suc (over_length records out i (le_of_suc-le-suc h))

@@ -1,6 +1,6 @@
 -- The parts of a job that is read: its entries are in the first slots, its image is what follows them, a refused job has only its number to tell, and what is written stands in
 -- the buffer.
-use mathlib.Core.Path.{◌≡◌, sym, ap, subst, ◌∙◌}
+use mathlib.Core.Path.{◌≡◌, sym, ap, ◌∙◌}
 use mathlib.Core.List.{List, ◌++◌}
 use Prim.Native.Nat.{ℕ, ◌-◌, ◌≤◌}
 use native.Mathlib.Omega.{arith}
@@ -12,7 +12,6 @@ use Rattle.job.specs.declared.JobAnswer.TheVariants.{Read}
 use Rattle.job.specs.Job.{job_of, entries_of, image_of, entries_in}
 use Rattle.job.proofs.Parts.{parts}
 use Rattle.report.specs.declared.ReportAnswer.{ReportAnswer}
-use Rattle.report.specs.declared.ReportAnswer.TheVariants.{Written}
 use Rattle.report.specs.Report.{TextOf, Delivers, TellsAll, Reports}
 
 module _ (bytes slots slots' : List ℕ) (job : Job) {answer : JobAnswer} (read : (answer ≡ job_of bytes) × (slots' ≡ entries_in bytes slots answer))
@@ -45,9 +44,3 @@ module _ (bytes slots slots' : List ℕ) (job : Job) {answer : JobAnswer} (read 
 pub reports_refusal : (bytes out out' text : List ℕ) {answer : JobAnswer} {r : ReportAnswer} → job_of bytes ≡ answer → TextOf bytes answer text
     → Delivers text out out' r → Reports bytes out out' r
 reports_refusal bytes out out' text is t d = record { text = text; is_text = rw is t; delivers = d }
-
--- a report that is written stands in the buffer
-pub written_there : (bytes out out' : List ℕ) {r : ReportAnswer} {n : ℕ} → Reports bytes out out' r → r ≡ Written n → n ≤ length out'
-written_there bytes out out' {n = n} reports e =
-    let d = subst (Delivers reports.text out out') e reports.delivers in
-    omega (arith, d.0, ap length d.2, length-append reports.text (drop n out))
