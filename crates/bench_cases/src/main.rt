@@ -2,66 +2,67 @@
 
 #![tactic(auto)]
 
-ghost use Rattle.std.specs.Prelude.{◌+◌, ◌≤◌, length};
+ghost use Rattle.std.specs.Prelude.{◌+◌, ◌<◌, ◌≤◌, length};
 
+use arrayvec::ArrayVec;
+use refusal::Refusal;
 use report::{LINE_END, SPACE};
-use span::SpanAnswer;
+use span::Span;
 use std::io;
 
-// ── lines, each put at `n`; where the next one goes ──
+// What one case writes.
+type Text = ArrayVec<u8, 1024>;
+
+// ── lines, each behind those that stand there ──
 
 // The name of a case.
-fn put_name(out: &mut [u8], name: &[u8]) -> usize
-    requires { (length name.now ≤ 32) × (38 ≤ length out.old) }
-    ensures { result ≤ 38 }
+fn put_name(out: &mut Text, name: &[u8])
+    requires { (length name.now ≤ 32) × (length out.old.items + 38 ≤ 1024) }
+    ensures { length out.new.items ≤ length out.old.items + 38 }
 {
-    let n = report::put_word(out, 0, b"CASE", SPACE);
-    report::put_word(out, n, name, LINE_END)
+    report::put_word(out, b"CASE", SPACE);
+    report::put_word(out, name, LINE_END);
 }
 
 // A span, and its count where it was given.
-fn put_counted(out: &mut [u8], n: usize, call: &[u8], answer: SpanAnswer) -> usize
-    requires { (length call.now ≤ 7) × (n + 67 ≤ length out.old) }
-    ensures { result ≤ n + 67 }
+fn put_counted(out: &mut Text, call: &[u8], answer: Result<Span, Refusal>)
+    requires { (length call.now ≤ 7) × (length out.old.items + 67 ≤ 1024) }
+    ensures { length out.new.items ≤ length out.old.items + 67 }
 {
-    let next = report::put_span(out, n, call, answer);
-    if let SpanAnswer::Given(s) = answer {
-        return report::put_number(out, next, b"COUNT", s.count as u64);
+    report::put_span(out, call, answer);
+    if let Ok(s) = answer {
+        report::put_number(out, b"COUNT", s.count as u64);
     }
-    next
 }
 
 // What `diagnose` answers, and its records.
-fn put_diagnosed(out: &mut [u8], n: usize, image: &[u8], load: u16, entries: &[u16]) -> usize
-    requires { n + 412 ≤ length out.old }
-    ensures { result ≤ n + 412 }
+fn put_diagnosed(out: &mut Text, image: &[u8], load: u16, entries: &[u16])
+    requires { length out.old.items + 412 ≤ 1024 }
+    ensures { length out.new.items ≤ length out.old.items + 412 }
 {
     let mut slots = [0u64; 8];
     let answer = diagnosis::diagnose(image, load, entries, &mut slots);
-    report::put_diag(out, n, answer, &slots)
+    report::put_diag(out, answer, &slots);
 }
 
 // What `write_extent` answers, and its records.
-fn put_stored(out: &mut [u8], n: usize, image: &[u8], load: u16, entries: &[u16]) -> usize
-    requires { n + 196 ≤ length out.old }
-    ensures { result ≤ n + 196 }
+fn put_stored(out: &mut Text, image: &[u8], load: u16, entries: &[u16])
+    requires { length out.old.items + 196 ≤ 1024 }
+    ensures { length out.new.items ≤ length out.old.items + 196 }
 {
     let mut slots = [0u32; 8];
     let answer = stores::write_extent(image, load, entries, &mut slots);
-    report::put_extent(out, n, answer, &slots)
+    report::put_extent(out, answer, &slots);
 }
 
 // What the tracker knows of the zero-page byte `z`.
-fn put_tracked(out: &mut [u8], n: usize, zp: &[u8; 256], marks: &[u8; 256], z: u8) -> usize
-    requires { n + 9 ≤ length out.old }
-    ensures { result ≤ n + 9 }
+fn put_tracked(out: &mut Text, zp: &[Option<u8>; 256], z: u8)
+    requires { length out.old.items + 9 ≤ 1024 }
+    ensures { length out.new.items ≤ length out.old.items + 9 }
 {
-    let values = &zp[..];
-    let known = &marks[..];
-    let i = z as usize;
-    let to_byte = report::put_word(out, n, b"ZP", SPACE);
-    let to_value = report::put_hex(out, to_byte, 2, z as u16, SPACE);
-    report::put_held(out, to_value, known[i], values[i], LINE_END)
+    report::put_word(out, b"ZP", SPACE);
+    report::put_hex(out, 2, z as u16, SPACE);
+    report::put_held(out, zp[z as usize], LINE_END);
 }
 
 // ── cases ──
@@ -70,15 +71,21 @@ fn put_tracked(out: &mut [u8], n: usize, zp: &[u8; 256], marks: &[u8; 256], z: u
 fn case(rt: &impl Print, name: &[u8], image: &[u8], load: u16, entries: &[u16]) -> io::Result<()>
     requires { length name.now ≤ 32 }
 {
-    let mut out = [0u8; 1024];
-    let plain = span::reachable_span(image, load, entries);
-    let guarded = span::guarded_span(image, load, entries);
-    let a = put_name(&mut out, name);
-    let b = put_counted(&mut out, a, b"SPAN", plain);
-    let c = put_counted(&mut out, b, b"GUARDED", guarded);
-    let d = put_diagnosed(&mut out, c, image, load, entries);
-    let end = put_stored(&mut out, d, image, load, entries);
-    rt.write_all(&out[..end])
+    let mut out = Text::new();
+    put_name(&mut out, name);
+    put_counted(
+        &mut out,
+        b"SPAN",
+        span::reachable_span(image, load, entries),
+    );
+    put_counted(
+        &mut out,
+        b"GUARDED",
+        span::guarded_span(image, load, entries),
+    );
+    put_diagnosed(&mut out, image, load, entries);
+    put_stored(&mut out, image, load, entries);
+    rt.write_all(out.as_slice())
 }
 
 // A case at 01's load address and entry.
@@ -125,27 +132,20 @@ fn starred_cases(rt: &impl Print) -> io::Result<()> {
 // What the tracker knows after a run that hides a load behind the operand of a BIT.
 fn tracker_case(rt: &impl Print) -> io::Result<()> {
     let state = tracker::track_immediates(b"\x85\xFB\x2C\xA9\x01\x85\x10");
-    let zp = state.zp;
-    let marks = state.marks;
-    let mut out = [0u8; 64];
-    let a = put_name(&mut out, b"85 FB 2C A9 01 85 10");
-    let b = put_tracked(&mut out, a, &zp, &marks, 0x10);
-    let end = put_tracked(&mut out, b, &zp, &marks, 0xFB);
-    rt.write_all(&out[..end])
+    let mut out = Text::new();
+    put_name(&mut out, b"85 FB 2C A9 01 85 10");
+    put_tracked(&mut out, &state.zp, 0x10);
+    put_tracked(&mut out, &state.zp, 0xFB);
+    rt.write_all(out.as_slice())
 }
 
-// As many instructions as a walk may meet.
-fn full_walk(rt: &impl Print) -> io::Result<()> {
-    let mut image = [0xEAu8; 4096];
-    image[4095] = 0x60;
-    plain_case(rt, b"4095 EA, 60", &image)
-}
-
-// One more.
-fn walk_past_its_limit(rt: &impl Print) -> io::Result<()> {
-    let mut image = [0xEAu8; 4097];
-    image[4096] = 0x60;
-    plain_case(rt, b"4096 EA, 60", &image)
+// A walk of `N` instructions, one byte each, in an image that fits the memory.
+fn long_walk<const N: usize>(rt: &impl Print, name: &[u8]) -> io::Result<()>
+    requires { (length name.now ≤ 32) × (0 < N) × (N ≤ 65536) }
+{
+    let mut image = [0xEAu8; N];
+    image[N - 1] = 0x60;
+    plain_case(rt, name, &image)
 }
 
 // The two entries meet more together, and each alone does not.
@@ -159,8 +159,9 @@ fn two_long_entries(rt: &impl Print) -> io::Result<()> {
 fn main(rt: HostRuntime) -> io::Result<()> {
     starred_cases(&rt)?;
     tracker_case(&rt)?;
-    full_walk(&rt)?;
-    walk_past_its_limit(&rt)?;
+    // As many instructions as a walk may meet, and one more.
+    long_walk::<4096>(&rt, b"4095 EA, 60")?;
+    long_walk::<4097>(&rt, b"4096 EA, 60")?;
     two_long_entries(&rt)?;
     case(&rt, b"60, entries 0 and 0", &[0x60], 0xC000, &[0, 0])?;
     // A loop that stores page after page, up to the page that it compares with.

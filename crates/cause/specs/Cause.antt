@@ -1,8 +1,7 @@
 -- The causes of refusal: their numbers and slugs (01, "The diagnosis"). Assumes nothing.
-use Rattle.std.specs.Prelude.{List, [], ◌∷◌, ◌++◌, ℕ, ◌+◌, ◌-◌, ◌*◌, length, replicate, get_or}
-use Prim.Native.String.{String}
+use Rattle.std.specs.Prelude.{◌≡◌, List, [], ◌∷◌, ℕ, ◌+◌, ◌*◌, ◌<◌, get_or, Result, MatchResult}
 use Rattle.lists.specs.Text.{ascii}
-use Rattle.cause.specs.declared.Slug.{Slug}
+use Rattle.cause.specs.declared.UnknownCause.{UnknownCause}
 use Rattle.cause.specs.declared.RefusalCause.{RefusalCause}
 use Rattle.cause.specs.declared.RefusalCause.TheVariants.{IllegalOpcode, Brk, JmpIndirect, IndirectIndexedY, IndirectIndexedX, OperandOffEnd, RanOffEnd, Budget, EntryOutside}
 
@@ -24,24 +23,21 @@ causes = IllegalOpcode ∷ Brk ∷ JmpIndirect ∷ IndirectIndexedY ∷ Indirect
 abbrev pub cause_at : ℕ → RefusalCause
 cause_at n = get_or causes n EntryOutside
 
-abbrev pub slug_text : RefusalCause → String
-slug_text IllegalOpcode = "illegal-opcode"
-slug_text Brk = "brk"
-slug_text JmpIndirect = "jmp-indirect"
-slug_text IndirectIndexedY = "indirect-y"
-slug_text IndirectIndexedX = "indirect-x"
-slug_text OperandOffEnd = "operand-off-end"
-slug_text RanOffEnd = "ran-off-end"
-slug_text Budget = "budget"
-slug_text EntryOutside = "entry-outside"
-
 -- the slug's bytes
 abbrev pub slug_of : RefusalCause → List ℕ
-slug_of cause = ascii (slug_text cause)
+slug_of IllegalOpcode = ascii "illegal-opcode"
+slug_of Brk = ascii "brk"
+slug_of JmpIndirect = ascii "jmp-indirect"
+slug_of IndirectIndexedY = ascii "indirect-y"
+slug_of IndirectIndexedX = ascii "indirect-x"
+slug_of OperandOffEnd = ascii "operand-off-end"
+slug_of RanOffEnd = ascii "ran-off-end"
+slug_of Budget = ascii "budget"
+slug_of EntryOutside = ascii "entry-outside"
 
--- a slug as the code has it: 15 bytes, those past the slug 0, and its length
-abbrev pub padded : List ℕ → Slug
-padded slug = record { bytes = slug ++ replicate (15 - length slug) 0; len = length slug }
+-- r is the cause with this number, or the number back where no cause has it
+abbrev pub NamedBy : ℕ → Result RefusalCause UnknownCause → Type 0
+NamedBy n r = MatchResult r (λ c. number_of c ≡ n) (λ e. (e.0 ≡ n) × (8 < n))
 
 -- records go by address, then cause
 abbrev pub key_of : RefusalCause → (address : ℕ) → ℕ

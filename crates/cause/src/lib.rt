@@ -2,10 +2,14 @@
 
 #![tactic(auto)]
 
-ghost use Rattle.std.specs.Prelude.{◌≡◌};
-ghost use Rattle.cause.specs.Cause.{number_of, cause_at, slug_of, padded, key_of};
+ghost use Rattle.std.specs.Prelude.{◌≡◌, ◌++◌, Some, codes, decimal};
+ghost use Rattle.cause.specs.Cause.{number_of, cause_at, slug_of, key_of, NamedBy};
 
-#[derive(Clone, Copy)]
+use std::error::Error;
+use std::fmt;
+
+// The causes in the order of their numbers, which 01 fixes.
+#[derive(Clone, Copy, Debug, PartialEq, Eq)]
 pub enum RefusalCause {
     IllegalOpcode,
     Brk,
@@ -18,12 +22,9 @@ pub enum RefusalCause {
     EntryOutside,
 }
 
-// A slug's bytes, in place of the Rust's `&'static str`: the first `len` are the slug, the others are 0.
-#[derive(Clone, Copy)]
-pub struct Slug {
-    pub bytes: [u8; 15],
-    pub len: usize,
-}
+// A number that no cause has.
+#[derive(Clone, Copy, Debug, PartialEq, Eq)]
+pub struct UnknownCause(pub u8);
 
 impl RefusalCause {
     // How many causes there are; their numbers are below it.
@@ -36,77 +37,30 @@ impl RefusalCause {
     pub fn number(self) -> u8
         ensures { result ≡ number_of self }
     {
-        match self {
-            RefusalCause::IllegalOpcode => 0,
-            RefusalCause::Brk => 1,
-            RefusalCause::JmpIndirect => 2,
-            RefusalCause::IndirectIndexedY => 3,
-            RefusalCause::IndirectIndexedX => 4,
-            RefusalCause::OperandOffEnd => 5,
-            RefusalCause::RanOffEnd => 6,
-            RefusalCause::Budget => 7,
-            RefusalCause::EntryOutside => 8,
-        }
+        self as u8
     }
 
     // The cause that has a number; the last one for every number that no cause has.
     pub fn from_number(n: u8) -> RefusalCause
         ensures { result ≡ cause_at n }
     {
-        match n {
-            0 => RefusalCause::IllegalOpcode,
-            1 => RefusalCause::Brk,
-            2 => RefusalCause::JmpIndirect,
-            3 => RefusalCause::IndirectIndexedY,
-            4 => RefusalCause::IndirectIndexedX,
-            5 => RefusalCause::OperandOffEnd,
-            6 => RefusalCause::RanOffEnd,
-            7 => RefusalCause::Budget,
-            8..=255 => RefusalCause::EntryOutside,
-        }
+        RefusalCause::try_from(n).unwrap_or(RefusalCause::EntryOutside)
     }
 
     // What a report prints.
-    pub fn slug(self) -> Slug
-        ensures { result ≡ padded (slug_of self) }
+    pub fn slug(self) -> &'static str
+        ensures { result.now ≡ slug_of self }
     {
         match self {
-            RefusalCause::IllegalOpcode => Slug {
-                bytes: *b"illegal-opcode\0",
-                len: 14,
-            },
-            RefusalCause::Brk => Slug {
-                bytes: *b"brk\0\0\0\0\0\0\0\0\0\0\0\0",
-                len: 3,
-            },
-            RefusalCause::JmpIndirect => Slug {
-                bytes: *b"jmp-indirect\0\0\0",
-                len: 12,
-            },
-            RefusalCause::IndirectIndexedY => Slug {
-                bytes: *b"indirect-y\0\0\0\0\0",
-                len: 10,
-            },
-            RefusalCause::IndirectIndexedX => Slug {
-                bytes: *b"indirect-x\0\0\0\0\0",
-                len: 10,
-            },
-            RefusalCause::OperandOffEnd => Slug {
-                bytes: *b"operand-off-end",
-                len: 15,
-            },
-            RefusalCause::RanOffEnd => Slug {
-                bytes: *b"ran-off-end\0\0\0\0",
-                len: 11,
-            },
-            RefusalCause::Budget => Slug {
-                bytes: *b"budget\0\0\0\0\0\0\0\0\0",
-                len: 6,
-            },
-            RefusalCause::EntryOutside => Slug {
-                bytes: *b"entry-outside\0\0",
-                len: 13,
-            },
+            RefusalCause::IllegalOpcode => "illegal-opcode",
+            RefusalCause::Brk => "brk",
+            RefusalCause::JmpIndirect => "jmp-indirect",
+            RefusalCause::IndirectIndexedY => "indirect-y",
+            RefusalCause::IndirectIndexedX => "indirect-x",
+            RefusalCause::OperandOffEnd => "operand-off-end",
+            RefusalCause::RanOffEnd => "ran-off-end",
+            RefusalCause::Budget => "budget",
+            RefusalCause::EntryOutside => "entry-outside",
         }
     }
 
@@ -117,3 +71,42 @@ impl RefusalCause {
         address as u32 * 256 + self.number() as u32
     }
 }
+
+impl TryFrom<u8> for RefusalCause {
+    type Error = UnknownCause;
+
+    ghost try_from_gives = { NamedBy };
+
+    fn try_from(n: u8) -> Result<Self, UnknownCause> {
+        match n {
+            0 => Ok(RefusalCause::IllegalOpcode),
+            1 => Ok(RefusalCause::Brk),
+            2 => Ok(RefusalCause::JmpIndirect),
+            3 => Ok(RefusalCause::IndirectIndexedY),
+            4 => Ok(RefusalCause::IndirectIndexedX),
+            5 => Ok(RefusalCause::OperandOffEnd),
+            6 => Ok(RefusalCause::RanOffEnd),
+            7 => Ok(RefusalCause::Budget),
+            8 => Ok(RefusalCause::EntryOutside),
+            9..=255 => Err(UnknownCause(n)),
+        }
+    }
+}
+
+impl fmt::Display for RefusalCause {
+    ghost output = { λ cause. Some (slug_of cause) };
+
+    fn fmt<W: fmt::Write>(&self, f: &mut fmt::Formatter<W>) -> fmt::Result {
+        f.write_str(self.slug())
+    }
+}
+
+impl fmt::Display for UnknownCause {
+    ghost output = { λ e. Some (codes "no cause has the number " ++ decimal e.0) };
+
+    fn fmt<W: fmt::Write>(&self, f: &mut fmt::Formatter<W>) -> fmt::Result {
+        write!(f, "no cause has the number {}", self.0)
+    }
+}
+
+impl Error for UnknownCause {}

@@ -1,14 +1,14 @@
 -- The outside entries put into the map, one entry after the other: an entry inside changes nothing, and one outside is one more member. So the members lie in every
 -- range that has the image and the entries.
 use mathlib.Core.Path.{◌≡◌, refl, sym, ap, ◌∙◌}
-use mathlib.Core.Bool.{Bool, true, false, ◌||◌, or-true, or-false, and-false}
+use mathlib.Core.Bool.{Bool, true, false, ◌||◌, or-true, and-false}
 use mathlib.Core.List.{List, ◌∷◌}
 use mathlib.Core.Logic.{⊎_elim}
-use Prim.Native.Nat.{ℕ, ◌+◌, ◌≤◌, ◌<◌}
+use Prim.Native.Nat.{ℕ, ◌+◌, ◌<◌}
 use native.Mathlib.Decide.{ℕ_discrete}
 use native.Mathlib.Numerals.{add-one}
 use native.Mathlib.Omega.{arith}
-use lib.ListN.{length, get_or, drop, drop_of_length-le}
+use lib.ListN.{length, get_or, drop}
 use lib.Seq.{drop-cons}
 use borrow.Author.Tests.{eq-eqb, ne_eqb}
 use Rattle.lists.specs.Lists.{elem}
@@ -55,9 +55,6 @@ module _ {load last : ℕ} {entries before map : List ℕ} {i : ℕ} (h : Adding
         each = λ a.
             outside_adds_one load last (get_or entries i 0) (drop (i + 1) entries) e n a ∙ rw (add-one) (rw (drop-cons entries i 0) at (h.each a));
       }
-
-  pub added_all : length entries ≤ i → Added load last entries before map
-  added_all l = record { each = λ a. sym (or-false (has map a)) ∙ rw (drop_of_length-le entries l) at (h.each a) }
 
 pub added_within : {load last : ℕ} {entries map map' : List ℕ} {range : Bounds} → Within load last map → Added load last entries map map'
     → Covers load last entries range → Within range.load range.last map'

@@ -13,11 +13,14 @@ use native.Mathlib.Nat.{le_refl}
 use native.Mathlib.Omega.{arith}
 use lib.Dec.{T, eqb, eqb_refl}
 use lib.ListN.{length, length-append, length-map}
+use Rattle.std.specs.Prelude.{Option, Result, Ok, Err}
 use Rattle.lists.specs.Lists.{◌∈◌}
 use Rattle.lists.proofs.Tests.{pass, passed, clash, either}
 use Rattle.lists.proofs.Sets.{empty}
 use Rattle.mos6502.specs.declared.Decoded.{Decoded}
-use Rattle.image.specs.declared.Address.{Address}
+use Rattle.refusal.specs.declared.Refusal.{Refusal}
+use Rattle.refusal.specs.declared.Refusal.TheVariants.{ImageEmpty, NoEntries, PastTop, Refused, Unbounded, Short, Full}
+use Rattle.refusal.specs.Numbers.{number_of}
 use Rattle.image.specs.Image.{last, inside}
 use Rattle.cause.specs.declared.RefusalCause.TheVariants.{Budget, EntryOutside}
 use Rattle.site.specs.declared.Causes.{Causes}
@@ -39,9 +42,7 @@ use Rattle.walk.proofs.Rules.{diagnosis_goes_on, clear_same}
 use Rattle.extent.specs.Extent.{is_skipped}
 use Rattle.recorder.specs.Recorded.{undecoded_of, causes_at, pairs_at, pairs_over}
 use Rattle.diagnosis.specs.declared.Summary.{Summary}
-use Rattle.diagnosis.specs.declared.DiagAnswer.{DiagAnswer}
-use Rattle.diagnosis.specs.declared.DiagAnswer.TheVariants.{Answered, ImageEmpty, NoEntries, PastTop, Short, Full}
-use Rattle.diagnosis.specs.Answers.{number_of, values_of, Finds, Answers}
+use Rattle.diagnosis.specs.Answers.{values_of, Finds, Answers}
 
 -- ── where nothing is recorded ──
 listed_clear : (c : Causes) → list_of c ≡ [] → is_clear c ≡ true
@@ -54,7 +55,7 @@ clear_listed Clear e = refl
 clear_listed (One c) e = absurd (false≢true e)
 clear_listed (Two c d) e = absurd (false≢true e)
 
-module _ (class : ℕ → Decoded) (image : List ℕ) (load last : ℕ) (undecoded : Address) where
+module _ (class : ℕ → Decoded) (image : List ℕ) (load last : ℕ) (undecoded : Option ℕ) where
   -- an address with nothing recorded is inside, was decoded, and has no cause
   pub record Clean (a : ℕ) : Type 0 where
     pub within : inside load last a ≡ true
@@ -180,20 +181,22 @@ module _ (class : ℕ → Decoded) (image : List ℕ) (load : ℕ) (entries : Li
 
 -- the same of the answer: no record exactly where a span is possible
 pub clean_answer : (class : ℕ → Decoded) (image : List ℕ) (load : ℕ) (entries slots slots' : List ℕ) (s : Summary)
-    → Answers class image load entries slots slots' (Answered s) → (s.records ≡ 0) ↔ ((l : List ℕ) × Possible class Span image load entries l)
+    → Answers class image load entries slots slots' (Ok s) → (s.records ≡ 0) ↔ ((l : List ℕ) × Possible class Span image load entries l)
 clean_answer class image load entries slots slots' s a =
     let c = clean_iff class image load entries a.1 in
     (λ e. c.0 (sym a.3 ∙ e), λ d. a.3 ∙ c.1 d)
 
 -- where a span is possible, the diagnosis answers with no record, whatever list is lent, and leaves the list as it was
 pub undisturbed : (class : ℕ → Decoded) (image : List ℕ) (load : ℕ) (entries : List ℕ) → (l : List ℕ) × Possible class Span image load entries l
-    → (slots slots' : List ℕ) (r : DiagAnswer) → Answers class image load entries slots slots' r
+    → (slots slots' : List ℕ) (r : Result Summary Refusal) → Answers class image load entries slots slots' r
     → (number_of r ≡ 0) × ((values_of r).records ≡ 0) × (slots' ≡ slots)
-undisturbed class image load entries p slots slots' ImageEmpty a = absurd (omega (arith, p.1.ready))
-undisturbed class image load entries p slots slots' NoEntries a = absurd (omega (arith, p.1.ready))
-undisturbed class image load entries p slots slots' PastTop a = absurd (omega (arith, p.1.ready))
-undisturbed class image load entries p slots slots' Full a = absurd (never_full entries (le_refl limit) a.1.2 a.1.0 refl)
-undisturbed class image load entries p slots slots' (Short needed) a = absurd (omega (arith, (clean_iff class image load entries a.1).1 p))
-undisturbed class image load entries p slots slots' (Answered t) a =
+undisturbed class image load entries p slots slots' (Err ImageEmpty) a = absurd (omega (arith, p.1.ready))
+undisturbed class image load entries p slots slots' (Err NoEntries) a = absurd (omega (arith, p.1.ready))
+undisturbed class image load entries p slots slots' (Err PastTop) a = absurd (omega (arith, p.1.ready))
+undisturbed class image load entries p slots slots' (Err Full) a = absurd (never_full entries (le_refl limit) a.1.2 a.1.0 refl)
+undisturbed class image load entries p slots slots' (Err Refused) a = absurd a
+undisturbed class image load entries p slots slots' (Err Unbounded) a = absurd a
+undisturbed class image load entries p slots slots' (Err (Short needed)) a = absurd (omega (arith, (clean_iff class image load entries a.1).1 p))
+undisturbed class image load entries p slots slots' (Ok t) a =
     let none = empty a.0 ((clean_iff class image load entries a.1).1 p) in
     (refl, (clean_answer class image load entries slots slots' t a).1 p, rw none at a.5)

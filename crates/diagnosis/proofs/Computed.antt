@@ -7,6 +7,7 @@ use mathlib.Core.List.{List, [], ◌∷◌, ◌++◌}
 use Prim.Native.Nat.{ℕ, suc, ◌-◌, ◌≤◌}
 use lib.Dec.{T}
 use lib.ListN.{length, drop}
+use Rattle.std.specs.Prelude.{Ok}
 use Rattle.lists.specs.Lists.{◌∈◌, elem}
 use Rattle.lists.proofs.Tests.{pass, clash}
 use Rattle.lists.proofs.Scan.{scan_ascending}
@@ -21,7 +22,6 @@ use Rattle.walk.proofs.Members.{ordered_met}
 use Rattle.span.proofs.Computed.{Ended}
 use Rattle.recorder.specs.Recorded.{Concerns}
 use Rattle.weights.specs.Weights.{records_alone, Weighs, none, counts, passes}
-use Rattle.diagnosis.specs.declared.DiagAnswer.TheVariants.{Answered}
 use Rattle.diagnosis.specs.Answers.{Answers}
 use Rattle.diagnosis.specs.Computed.{turns_of, records_by, weight_after, records_from, summary_from}
 use Rattle.diagnosis.proofs.Measured.{measured}
@@ -66,7 +66,7 @@ module _ (class : ℕ → Decoded) (image : List ℕ) (load : ℕ) where
     pub computed : ((pc : ℕ) → e ≡ full pc → ⊥) → AllEnd n entries → (slots : List ℕ) → length (records_from class image load entries n e met) ≤ length slots
         → Answers class image load entries slots
         (records_from class image load entries n e met ++ drop (length (records_from class image load entries n e met)) slots)
-        (Answered (summary_from class image load entries n e met))
+        (Ok (summary_from class image load entries n e met))
     computed f d slots h = (
       records_from class image load entries n e met,
       record {

@@ -10,12 +10,12 @@ use native.Mathlib.Nat.{min-le_right}
 use native.Mathlib.Omega.{arith}
 use lib.ListN.{length, take, drop, length-map}
 use lib.Seq.{take_at, drop_at}
+use Rattle.std.specs.Prelude.{Option, Some, None, unwrap_or}
 use Rattle.lists.specs.Lists.{◌∈◌, scan}
 use Rattle.lists.proofs.Sets.{empty}
 use Rattle.lists.proofs.Scan.{scan_only}
 use Rattle.mos6502.specs.declared.Decoded.{Decoded}
 use Rattle.mos6502.specs.Class.{manual_class}
-use Rattle.image.specs.declared.Address.{Address}
 use Rattle.image.specs.Image.{inside, byte_at}
 use Rattle.address_set.specs.Map.{has}
 use Rattle.cause.specs.declared.RefusalCause.{RefusalCause}
@@ -34,6 +34,11 @@ below : (b : Bool) (x y n : ℕ) → x < n → y < n → cond b x y < n
 below true x y n p q = p
 below false x y n p q = q
 
+-- a pointer, where one is shown
+pointer_below : (b : Bool) (z : ℕ) → z < 256 → unwrap_or (cond b (Some z) None) 0 < 256
+pointer_below true z h = h
+pointer_below false z h = omega arith
+
 module _ (class : ℕ → Decoded) (image : List ℕ) (load last : ℕ) (order : List ℕ) (bytes : (a : ℕ) → byte_at image load a < 256) where
   -- what is recorded fits its place in a record, whatever the weight
   pub recorded_sized : (weight : ℕ → ℕ) (p : Pair) → p.address < 65536 → Sized (fields_of class image load last order weight p)
@@ -41,7 +46,7 @@ module _ (class : ℕ → Decoded) (image : List ℕ) (load last : ℕ) (order :
       record {
         address = omega arith;
         opcode = below (inside load last p.address) (byte_at image load p.address) 0 256 (bytes p.address) (omega arith);
-        pointer = below (is_pointer p.cause) ((site_in class image load last p.address).operand % 256) 0 256 (omega arith) (omega arith);
+        pointer = pointer_below (is_pointer p.cause) ((site_in class image load last p.address).operand % 256) (omega arith);
         weight = omega (arith, min-le_right (weight p.address) 65535);
       }
 
@@ -60,7 +65,7 @@ module _ (class : ℕ → Decoded) (image : List ℕ) (load last : ℕ) (order :
   raise_at a h [] = refl
   raise_at a h (c ∷ causes) = ap₂ (λ (x : ℕ) (l : List ℕ). x ∷ l) (raise_one (record { address = a; cause = c }) h) (raise_at a h causes)
 
-  pub raise_records : (undecoded : Address) (l : List ℕ) → ((a : ℕ) → a ∈ l → a < 65536)
+  pub raise_records : (undecoded : Option ℕ) (l : List ℕ) → ((a : ℕ) → a ∈ l → a < 65536)
       → raised_by weight (records_of class image load last order (λ b. 0) (pairs_over class image load last undecoded l))
       ≡ records_of class image load last order weight (pairs_over class image load last undecoded l)
   unfolding pairs_over
@@ -77,7 +82,7 @@ module _ (class : ℕ → Decoded) (image : List ℕ) (load last : ℕ) (order :
       raise r = raised (weight (address_of r)) r
 
 -- the records written with weight 0, and then the first n slots raised
-module _ (image : List ℕ) (load last : ℕ) (entries members : List ℕ) (undecoded : Address) where
+module _ (image : List ℕ) (load last : ℕ) (entries members : List ℕ) (undecoded : Option ℕ) where
   abbrev found : List Pair
   found = pairs_over manual_class image load last undecoded (scan (has members) 0 65536)
 

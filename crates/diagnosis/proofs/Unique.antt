@@ -12,11 +12,13 @@ use Prim.Native.Nat.{ℕ}
 use native.Mathlib.Nat.{le_refl}
 use native.Mathlib.Omega.{arith}
 use lib.ListN.{length, drop}
+use Rattle.std.specs.Prelude.{Option, Result, Ok, Err}
 use Rattle.lists.specs.Lists.{◌∈◌}
 use Rattle.lists.proofs.Sets.{ascending_unique}
 use Rattle.lists.proofs.Tests.{either}
 use Rattle.mos6502.specs.declared.Decoded.{Decoded}
-use Rattle.image.specs.declared.Address.{Address}
+use Rattle.refusal.specs.declared.Refusal.{Refusal}
+use Rattle.refusal.specs.declared.Refusal.TheVariants.{ImageEmpty, NoEntries, PastTop, Refused, Unbounded, Short, Full}
 use Rattle.image.specs.Image.{last, inside}
 use Rattle.cause.specs.declared.RefusalCause.{RefusalCause}
 use Rattle.reach.specs.Walk.{full}
@@ -29,8 +31,6 @@ use Rattle.recorder.specs.Recorded.{undecoded_of, causes_at, pairs_at, pairs_ove
 use Rattle.recorder.specs.Records.{record_of, records_of}
 use Rattle.weights.proofs.Unique.{weighs_unique}
 use Rattle.diagnosis.specs.declared.Summary.{Summary}
-use Rattle.diagnosis.specs.declared.DiagAnswer.{DiagAnswer}
-use Rattle.diagnosis.specs.declared.DiagAnswer.TheVariants.{Answered, ImageEmpty, NoEntries, PastTop, Short, Full}
 use Rattle.diagnosis.specs.Answers.{Finds, Measures, Answers}
 
 -- ── records rest on the weights of their addresses ──
@@ -41,7 +41,7 @@ module _ (class : ℕ → Decoded) (image : List ℕ) (load last : ℕ) (order :
   same_at a e [] = refl
   same_at a e (c ∷ causes) = rw (e, same_at a e causes)
 
-  same_records : (undecoded : Address) (l : List ℕ) → ((a : ℕ) → a ∈ l → v a ≡ w a)
+  same_records : (undecoded : Option ℕ) (l : List ℕ) → ((a : ℕ) → a ∈ l → v a ≡ w a)
       → records_of class image load last order v (pairs_over class image load last undecoded l)
       ≡ records_of class image load last order w (pairs_over class image load last undecoded l)
   unfolding pairs_over
@@ -110,45 +110,57 @@ module _ (class : ℕ → Decoded) (image : List ℕ) (load : ℕ) (entries : Li
   same_summary : {s t : Summary} → s.low ≡ t.low → s.high ≡ t.high → s.count ≡ t.count → s.records ≡ t.records → s ≡ t
   same_summary p q r n i = record { low = p i; high = q i; count = r i; records = n i }
 
-  answered : {slots after after' : List ℕ} {s t : Summary} → Answers class image load entries slots after (Answered s)
-      → Answers class image load entries slots after' (Answered t) → (Answered s ≡ Answered t) × (after ≡ after')
+  answered : {slots after after' : List ℕ} {s t : Summary} → Answers class image load entries slots after (Ok s)
+      → Answers class image load entries slots after' (Ok t) → (◌≡◌ {A = Result Summary Refusal} (Ok s) (Ok t)) × (after ≡ after')
   answered {slots} p q =
       let e = finds_unique p.1 q.1 in
       let m = measures_unique p.1 q.1 p.2 q.2 in (
-        ap Answered (same_summary m.0 m.1 m.2 (p.3 ∙ ap length e ∙ sym q.3)),
+        ap Ok (same_summary m.0 m.1 m.2 (p.3 ∙ ap length e ∙ sym q.3)),
         p.5 ∙ ap (λ (k : List ℕ). k ++ drop (length k) slots) e ∙ sym q.5,
       )
 
-  pub answers_unique : (slots after after' : List ℕ) (r r' : DiagAnswer) → Answers class image load entries slots after r
+  pub answers_unique : (slots after after' : List ℕ) (r r' : Result Summary Refusal) → Answers class image load entries slots after r
       → Answers class image load entries slots after' r' → (r ≡ r') × (after ≡ after')
-  answers_unique slots after after' ImageEmpty ImageEmpty p q = (refl, p.1 ∙ sym q.1)
-  answers_unique slots after after' ImageEmpty NoEntries p q = absurd (omega arith)
-  answers_unique slots after after' ImageEmpty PastTop p q = absurd (omega arith)
-  answers_unique slots after after' ImageEmpty Full p q = absurd (no_full q.1)
-  answers_unique slots after after' ImageEmpty (Short m) p q = absurd (omega (arith, q.1.ready))
-  answers_unique slots after after' ImageEmpty (Answered t) p q = absurd (omega (arith, q.1.ready))
-  answers_unique slots after after' NoEntries ImageEmpty p q = absurd (omega arith)
-  answers_unique slots after after' NoEntries NoEntries p q = (refl, p.2 ∙ sym q.2)
-  answers_unique slots after after' NoEntries PastTop p q = absurd (omega arith)
-  answers_unique slots after after' NoEntries Full p q = absurd (no_full q.1)
-  answers_unique slots after after' NoEntries (Short m) p q = absurd (omega (arith, q.1.ready))
-  answers_unique slots after after' NoEntries (Answered t) p q = absurd (omega (arith, q.1.ready))
-  answers_unique slots after after' PastTop ImageEmpty p q = absurd (omega arith)
-  answers_unique slots after after' PastTop NoEntries p q = absurd (omega arith)
-  answers_unique slots after after' PastTop PastTop p q = (refl, p.3 ∙ sym q.3)
-  answers_unique slots after after' PastTop Full p q = absurd (no_full q.1)
-  answers_unique slots after after' PastTop (Short m) p q = absurd (omega (arith, q.1.ready))
-  answers_unique slots after after' PastTop (Answered t) p q = absurd (omega (arith, q.1.ready))
-  answers_unique slots after after' Full r' p q = absurd (no_full p.1)
-  answers_unique slots after after' (Short n) ImageEmpty p q = absurd (omega (arith, p.1.ready))
-  answers_unique slots after after' (Short n) NoEntries p q = absurd (omega (arith, p.1.ready))
-  answers_unique slots after after' (Short n) PastTop p q = absurd (omega (arith, p.1.ready))
-  answers_unique slots after after' (Short n) Full p q = absurd (no_full q.1)
-  answers_unique slots after after' (Short n) (Short m) p q = (ap Short (p.2 ∙ ap length (finds_unique p.1 q.1) ∙ sym q.2), p.4 ∙ sym q.4)
-  answers_unique slots after after' (Short n) (Answered t) p q = absurd (omega (arith, p.2, p.3, q.4, ap length (finds_unique p.1 q.1)))
-  answers_unique slots after after' (Answered s) ImageEmpty p q = absurd (omega (arith, p.1.ready))
-  answers_unique slots after after' (Answered s) NoEntries p q = absurd (omega (arith, p.1.ready))
-  answers_unique slots after after' (Answered s) PastTop p q = absurd (omega (arith, p.1.ready))
-  answers_unique slots after after' (Answered s) Full p q = absurd (no_full q.1)
-  answers_unique slots after after' (Answered s) (Short m) p q = absurd (omega (arith, q.2, q.3, p.4, ap length (finds_unique p.1 q.1)))
-  answers_unique slots after after' (Answered s) (Answered t) p q = answered p q
+  answers_unique slots after after' (Err ImageEmpty) (Err ImageEmpty) p q = (refl, p.1 ∙ sym q.1)
+  answers_unique slots after after' (Err ImageEmpty) (Err NoEntries) p q = absurd (omega arith)
+  answers_unique slots after after' (Err ImageEmpty) (Err PastTop) p q = absurd (omega arith)
+  answers_unique slots after after' (Err ImageEmpty) (Err Full) p q = absurd (no_full q.1)
+  answers_unique slots after after' (Err ImageEmpty) (Err (Short m)) p q = absurd (omega (arith, q.1.ready))
+  answers_unique slots after after' (Err ImageEmpty) (Ok t) p q = absurd (omega (arith, q.1.ready))
+  answers_unique slots after after' (Err ImageEmpty) (Err Refused) p q = absurd q
+  answers_unique slots after after' (Err ImageEmpty) (Err Unbounded) p q = absurd q
+  answers_unique slots after after' (Err NoEntries) (Err ImageEmpty) p q = absurd (omega arith)
+  answers_unique slots after after' (Err NoEntries) (Err NoEntries) p q = (refl, p.2 ∙ sym q.2)
+  answers_unique slots after after' (Err NoEntries) (Err PastTop) p q = absurd (omega arith)
+  answers_unique slots after after' (Err NoEntries) (Err Full) p q = absurd (no_full q.1)
+  answers_unique slots after after' (Err NoEntries) (Err (Short m)) p q = absurd (omega (arith, q.1.ready))
+  answers_unique slots after after' (Err NoEntries) (Ok t) p q = absurd (omega (arith, q.1.ready))
+  answers_unique slots after after' (Err NoEntries) (Err Refused) p q = absurd q
+  answers_unique slots after after' (Err NoEntries) (Err Unbounded) p q = absurd q
+  answers_unique slots after after' (Err PastTop) (Err ImageEmpty) p q = absurd (omega arith)
+  answers_unique slots after after' (Err PastTop) (Err NoEntries) p q = absurd (omega arith)
+  answers_unique slots after after' (Err PastTop) (Err PastTop) p q = (refl, p.3 ∙ sym q.3)
+  answers_unique slots after after' (Err PastTop) (Err Full) p q = absurd (no_full q.1)
+  answers_unique slots after after' (Err PastTop) (Err (Short m)) p q = absurd (omega (arith, q.1.ready))
+  answers_unique slots after after' (Err PastTop) (Ok t) p q = absurd (omega (arith, q.1.ready))
+  answers_unique slots after after' (Err PastTop) (Err Refused) p q = absurd q
+  answers_unique slots after after' (Err PastTop) (Err Unbounded) p q = absurd q
+  answers_unique slots after after' (Err Full) r' p q = absurd (no_full p.1)
+  answers_unique slots after after' (Err (Short n)) (Err ImageEmpty) p q = absurd (omega (arith, p.1.ready))
+  answers_unique slots after after' (Err (Short n)) (Err NoEntries) p q = absurd (omega (arith, p.1.ready))
+  answers_unique slots after after' (Err (Short n)) (Err PastTop) p q = absurd (omega (arith, p.1.ready))
+  answers_unique slots after after' (Err (Short n)) (Err Full) p q = absurd (no_full q.1)
+  answers_unique slots after after' (Err (Short n)) (Err (Short m)) p q = (ap (λ k. Err (Short k)) (p.2 ∙ ap length (finds_unique p.1 q.1) ∙ sym q.2), p.4 ∙ sym q.4)
+  answers_unique slots after after' (Err (Short n)) (Ok t) p q = absurd (omega (arith, p.2, p.3, q.4, ap length (finds_unique p.1 q.1)))
+  answers_unique slots after after' (Err (Short n)) (Err Refused) p q = absurd q
+  answers_unique slots after after' (Err (Short n)) (Err Unbounded) p q = absurd q
+  answers_unique slots after after' (Ok s) (Err ImageEmpty) p q = absurd (omega (arith, p.1.ready))
+  answers_unique slots after after' (Ok s) (Err NoEntries) p q = absurd (omega (arith, p.1.ready))
+  answers_unique slots after after' (Ok s) (Err PastTop) p q = absurd (omega (arith, p.1.ready))
+  answers_unique slots after after' (Ok s) (Err Full) p q = absurd (no_full q.1)
+  answers_unique slots after after' (Ok s) (Err (Short m)) p q = absurd (omega (arith, q.2, q.3, p.4, ap length (finds_unique p.1 q.1)))
+  answers_unique slots after after' (Ok s) (Ok t) p q = answered p q
+  answers_unique slots after after' (Ok s) (Err Refused) p q = absurd q
+  answers_unique slots after after' (Ok s) (Err Unbounded) p q = absurd q
+  answers_unique slots after after' (Err Refused) r' p q = absurd p
+  answers_unique slots after after' (Err Unbounded) r' p q = absurd p

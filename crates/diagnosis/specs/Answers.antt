@@ -1,7 +1,10 @@
 -- What `diagnose` answers, and what it leaves in the lent list (01, "Numbered outcomes" and "The diagnosis"). Assumes nothing.
-use Rattle.std.specs.Prelude.{◌≡◌, true, false, List, ◌++◌, ℕ, ◌≤◌, ◌<◌, length, drop}
+use Rattle.std.specs.Prelude.{◌≡◌, true, false, List, ◌++◌, ℕ, ◌≤◌, ◌<◌, length, drop, Result, Ok, Err}
 use Rattle.lists.specs.Lists.{◌∈◌, Ascending}
 use Rattle.mos6502.specs.declared.Decoded.{Decoded}
+use Rattle.refusal.specs.declared.Refusal.{Refusal}
+use Rattle.refusal.specs.declared.Refusal.TheVariants.{ImageEmpty, NoEntries, PastTop, Refused, Unbounded, Short, Full}
+use Rattle.refusal.specs.Numbers.{needed}
 use Rattle.image.specs.Image.{last, inside}
 use Rattle.opening.specs.Opening.{Ready}
 use Rattle.site.specs.declared.Reading.TheVariants.{Plain}
@@ -12,32 +15,18 @@ use Rattle.walk.specs.Walked.{Walk}
 use Rattle.extent.specs.Extent.{is_skipped}
 use Rattle.extent.specs.Named.{Named, Range}
 use Rattle.diagnosis.specs.declared.Summary.{Summary}
-use Rattle.diagnosis.specs.declared.DiagAnswer.{DiagAnswer}
-use Rattle.diagnosis.specs.declared.DiagAnswer.TheVariants.{Answered, ImageEmpty, NoEntries, PastTop, Short, Full}
 use Rattle.recorder.specs.Recorded.{undecoded_of, pairs_over, Concerns}
 use Rattle.recorder.specs.Records.{records_of}
 use Rattle.weights.specs.Weights.{Weighs}
 
--- ── 01's number and values ──
-abbrev pub number_of : DiagAnswer → ℕ
-number_of (Answered s) = 0
-number_of ImageEmpty = 1
-number_of NoEntries = 2
-number_of PastTop = 3
-number_of (Short needed) = 6
-number_of Full = 7
-
+-- ── 01's values ──
 -- low, high, the number of addresses met and that of records; a refusal's are 0, but for the number of records that a list too short would need
 abbrev pub wanting : (needed : ℕ) → Summary
 wanting needed = record { low = 0; high = 0; count = 0; records = needed }
 
-abbrev pub values_of : DiagAnswer → Summary
-values_of (Answered s) = s
-values_of ImageEmpty = wanting 0
-values_of NoEntries = wanting 0
-values_of PastTop = wanting 0
-values_of (Short needed) = wanting needed
-values_of Full = wanting 0
+abbrev pub values_of : Result Summary Refusal → Summary
+values_of (Ok s) = s
+values_of (Err refusal) = wanting (needed refusal)
 
 -- ── what is found ──
 module _ (class : ℕ → Decoded) (image : List ℕ) (load : ℕ) (entries : List ℕ) where
@@ -71,13 +60,15 @@ module _ (class : ℕ → Decoded) (image : List ℕ) (load : ℕ) (entries : Li
     pub count : s.count ≡ length met
 
   -- Each answer, and the slots before and after. A refusal leaves every slot as it was; an answer writes slots 0 to n - 1 and no other.
-  abbrev pub Answers : (slots slots' : List ℕ) → DiagAnswer → Type 0
-  Answers slots slots' ImageEmpty = (length image ≡ 0) × (slots' ≡ slots)
-  Answers slots slots' NoEntries = (0 < length image) × (length entries ≡ 0) × (slots' ≡ slots)
-  Answers slots slots' PastTop = (0 < length image) × (0 < length entries) × (0xFFFF < last image load) × (slots' ≡ slots)
-  Answers slots slots' Full =
+  abbrev pub Answers : (slots slots' : List ℕ) → Result Summary Refusal → Type 0
+  Answers slots slots' (Err ImageEmpty) = (length image ≡ 0) × (slots' ≡ slots)
+  Answers slots slots' (Err NoEntries) = (0 < length image) × (length entries ≡ 0) × (slots' ≡ slots)
+  Answers slots slots' (Err PastTop) = (0 < length image) × (0 < length entries) × (0xFFFF < last image load) × (slots' ≡ slots)
+  Answers slots slots' (Err Refused) = ⊥
+  Answers slots slots' (Err Unbounded) = ⊥
+  Answers slots slots' (Err Full) =
       Ready image load entries × ((pc : ℕ) × (met : List ℕ) × Walk class Diagnosis image load (last image load) entries (full pc) met) × (slots' ≡ slots)
-  Answers slots slots' (Short needed) = (records : List ℕ) × Finds records × (needed ≡ length records) × (length slots < needed) × (slots' ≡ slots)
-  Answers slots slots' (Answered s) =
+  Answers slots slots' (Err (Short needed)) = (records : List ℕ) × Finds records × (needed ≡ length records) × (length slots < needed) × (slots' ≡ slots)
+  Answers slots slots' (Ok s) =
       (records : List ℕ) × (f : Finds records) × Measures f.end f.met s × (s.records ≡ length records) × (length records ≤ length slots)
       × (slots' ≡ records ++ drop (length records) slots)

@@ -1,22 +1,16 @@
 -- What the steps of `diagnose` leave behind. Assumes nothing.
-use Rattle.std.specs.Prelude.{◌≡◌, Bool, true, false, not, ◌&&◌, ◌||◌, List, ◌++◌, ℕ, suc, ◌-◌, ◌≤◌, length, drop}
-use Rattle.lists.specs.Lists.{◌∈◌, elem, scan}
+use Rattle.std.specs.Prelude.{◌≡◌, Bool, not, ◌&&◌, ◌||◌, List, ◌++◌, ℕ, ◌≤◌, ◌<◌, length, drop, Option}
+use Rattle.lists.specs.Lists.{◌∈◌, elem}
 use Rattle.mos6502.specs.Class.{manual_class}
-use Rattle.image.specs.declared.Address.{Address}
 use Rattle.image.specs.declared.Bounds.{Bounds}
-use Rattle.image.specs.Image.{inside}
-use Rattle.address_set.specs.Map.{has}
-use Rattle.walk.specs.declared.End.{End}
-use Rattle.walk.specs.declared.End.TheVariants.{Finished, Refused, Spent, Full}
-use Rattle.recorder.specs.Recorded.{pairs_over}
-use Rattle.recorder.specs.Records.{records_of}
+use Rattle.image.specs.Image.{inside, byte_at}
+use Rattle.address_set.specs.Map.{has, members_in}
+use Rattle.recorder.specs.Records.{records_of, pairs_of}
 use Rattle.weights.specs.Weights.{Weighs}
 
-abbrev pub is_full : End → Bool
-is_full Finished = false
-is_full (Refused pc) = false
-is_full (Spent pc) = false
-is_full (Full pc) = true
+-- every byte of the image is below 256
+abbrev pub BytesFit : (image : List ℕ) → Type 0
+BytesFit image = (load a : ℕ) → byte_at image load a < 256
 
 -- is a an outside entry?
 abbrev pub is_outside : (load last : ℕ) (entries : List ℕ) → ℕ → Bool
@@ -32,8 +26,8 @@ pub record Covers (load last : ℕ) (entries : List ℕ) (range : Bounds) : Type
   pub each : (a : ℕ) → a ∈ entries → (range.load ≤ a) × (a ≤ range.last)
 
 -- the records of the map's members, with their weights, stand in the first slots, and the others are as they were
-pub record Fills (image : List ℕ) (load last : ℕ) (entries map : List ℕ) (undecoded : Address) (slots slots' : List ℕ) : Type 0 where
+pub record Fills (image : List ℕ) (load last : ℕ) (entries map : List ℕ) (undecoded : Option ℕ) (slots slots' : List ℕ) : Type 0 where
   pub weight : ℕ → ℕ
   pub weighs : (a : ℕ) → Weighs manual_class image load last a entries (weight a)
-  pub exact : slots' ≡ records_of manual_class image load last (scan (has map) load (suc last - load)) weight (pairs_over manual_class image load last undecoded (scan (has map) 0 65536))
-      ++ drop (length (pairs_over manual_class image load last undecoded (scan (has map) 0 65536))) slots
+  pub exact : slots' ≡ records_of manual_class image load last (members_in load last map) weight (pairs_of image load last undecoded map)
+      ++ drop (length (pairs_of image load last undecoded map)) slots

@@ -3,21 +3,19 @@
 #![tactic(auto)]
 
 ghost use Rattle.std.specs.Prelude.{◌≡◌, ◌≤◌, length};
-ghost use Rattle.lists.specs.Lists.{scan};
 ghost use Rattle.mos6502.specs.Class.{manual_class};
-ghost use Rattle.image.specs.Image.{Lies};
-ghost use Rattle.address_set.specs.Map.{has, Within};
-ghost use Rattle.recorder.specs.Recorded.{pairs_over};
+ghost use Rattle.address_set.specs.Map.{Within};
+ghost use Rattle.recorder.specs.Records.{pairs_of};
 ghost use Rattle.diagnosis.specs.Answers.{Answers};
-ghost use Rattle.diagnosis.specs.Steps.{is_full, Added, Covers, Fills};
+ghost use Rattle.diagnosis.specs.Steps.{BytesFit, Added, Covers, Fills};
 
-use image::{Address, Bounds};
-use opening::Opening;
+use image::{Bounds, Image};
+use refusal::Refusal;
 use site::Reading;
 use walk::{End, Rule};
 
 // The range, the number of addresses met, and the number of records.
-#[derive(Clone, Copy)]
+#[derive(Clone, Copy, Debug, PartialEq, Eq)]
 pub struct Summary {
     pub low: u16,
     pub high: u16,
@@ -25,39 +23,14 @@ pub struct Summary {
     pub records: usize,
 }
 
-// 01's answers 0, 1, 2, 3, 6 and 7. A list too short is refused with the number of records it needs.
-#[derive(Clone, Copy)]
-pub enum DiagAnswer {
-    Answered(Summary),
-    ImageEmpty,
-    NoEntries,
-    PastTop,
-    Short(usize),
-    Full,
-}
-
-fn is_full(end: End) -> bool
-    ensures { result ≡ is_full end }
-{
-    match end {
-        End::Finished => false,
-        End::Refused(_) => false,
-        End::Spent(_) => false,
-        End::Full(_) => true,
-    }
-}
-
 // Adds the entries that are outside to the map, so that one ascending pass meets them in their places.
 fn add_outside(entries: &[u16], bounds: Bounds, map: &mut [u8; 8192])
     ensures { Added bounds.load bounds.last entries.now map.old map.new }
 {
-    let mut i = 0;
-    while i < entries.len() {
-        let e = entries[i];
+    for &e in entries {
         if !bounds.inside(e) {
             address_set::insert(map, e);
         }
-        i += 1;
     }
 }
 
@@ -76,58 +49,59 @@ fn concerned_range(entries: &[u16], bounds: Bounds) -> Bounds
 
 // Writes the `n` records of the map's members, which lie in `range`, ascending, with their weights.
 fn fill(
-    image: &[u8],
-    bounds: Bounds,
+    image: Image<'_>,
     entries: &[u16],
     map: &[u8; 8192],
     range: Bounds,
-    undecoded: Address,
+    undecoded: Option<u16>,
     n: usize,
     slots: &mut [u64],
 )
-    requires { Lies image.now bounds.load bounds.last × Within range.load range.last map.now × (n ≡ length (pairs_over manual_class image.now bounds.load bounds.last undecoded (scan (has map.now) 0 65536))) × (n ≤ length slots.old) }
-    ensures { Fills image.now bounds.load bounds.last entries.now map.now undecoded slots.old slots.new }
+    requires fit { BytesFit image.bytes.now }
+    requires within { Within range.load range.last map.now }
+    requires number { n ≡ length (pairs_of image.bytes.now image.bounds.load image.bounds.last undecoded map.now) }
+    requires room { n ≤ length slots.old }
+    ensures { Fills image.entry.bytes.now image.entry.bounds.load image.entry.bounds.last entries.now map.now undecoded slots.old slots.new }
 {
     // Nothing to write: then no entry need be walked for its weights.
     if n == 0 {
         return;
     }
-    let mut states = [0u8; 256];
-    resolver::resolve_all(image, bounds, map, &mut states);
-    recorder::write_records(image, bounds, map, range, undecoded, &states, slots);
-    weights::fill_weights(image, bounds, entries, &mut slots[..n]);
+    let seen = resolver::resolve_all(image, map);
+    recorder::write_records(image, map, range, undecoded, &seen, slots);
+    weights::fill_weights(image, entries, &mut slots[..n]);
 }
 
 // Walks the image from `entries` and records every refusal with its weight. The lent list gets the records in its first slots, or is left as it was.
-pub fn diagnose(image: &[u8], load: u16, entries: &[u16], slots: &mut [u64]) -> DiagAnswer
+// A list too short is refused with the number of records it needs.
+pub fn diagnose(
+    image: &[u8],
+    load: u16,
+    entries: &[u16],
+    slots: &mut [u64],
+) -> Result<Summary, Refusal>
     ensures { Answers manual_class image.now load entries.now slots.old slots.new result }
 {
-    match opening::open(image, load, entries) {
-        Opening::ImageEmpty => DiagAnswer::ImageEmpty,
-        Opening::NoEntries => DiagAnswer::NoEntries,
-        Opening::PastTop => DiagAnswer::PastTop,
-        Opening::At(bounds) => {
-            let mut map = [0u8; 8192];
-            let end = walk::walk(image, bounds, entries, Rule::Diagnosis, &mut map);
-            if is_full(end) {
-                return DiagAnswer::Full;
-            }
-            let undecoded = recorder::undecoded_of(end);
-            let range = extent::extent_of(image, bounds, entries, &map, undecoded, Reading::Plain);
-            let count = address_set::size(&map, bounds.load, bounds.last);
-            add_outside(entries, bounds, &mut map);
-            let concerned = concerned_range(entries, bounds);
-            let n = recorder::count_pairs(image, bounds, &map, concerned, undecoded);
-            if slots.len() < n {
-                return DiagAnswer::Short(n);
-            }
-            fill(image, bounds, entries, &map, concerned, undecoded, n, slots);
-            DiagAnswer::Answered(Summary {
-                low: range.low,
-                high: range.high,
-                count,
-                records: n,
-            })
-        }
+    let opened = opening::open(image, load, entries)?;
+    let mut map = [0u8; 8192];
+    let end = walk::walk(opened, entries, Rule::Diagnosis, &mut map);
+    if let End::Full(_) = end {
+        return Err(Refusal::Full);
     }
+    let undecoded = recorder::undecoded_of(end);
+    let range = extent::extent_of(opened, entries, &map, undecoded, Reading::Plain);
+    let count = address_set::size(&map, opened.bounds.load, opened.bounds.last);
+    add_outside(entries, opened.bounds, &mut map);
+    let concerned = concerned_range(entries, opened.bounds);
+    let n = recorder::count_pairs(opened, &map, concerned, undecoded);
+    if slots.len() < n {
+        return Err(Refusal::Short(n));
+    }
+    fill(opened, entries, &map, concerned, undecoded, n, slots);
+    Ok(Summary {
+        low: range.low,
+        high: range.high,
+        count,
+        records: n,
+    })
 }

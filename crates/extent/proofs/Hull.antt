@@ -12,14 +12,13 @@ use Prim.Native.Nat.{ℕ, suc, ◌+◌, ◌-◌, ◌≤◌, ◌<◌, min, max}
 use native.Mathlib.Decide.{dec_le}
 use native.Mathlib.Omega.{arith}
 use lib.Dec.{T}
+use Rattle.std.proofs.Common.{Option, Some, None}
 use Rattle.lists.specs.Lists.{◌∈◌}
 use Rattle.lists.proofs.Tests.{pass, clash}
-use Rattle.image.specs.declared.Address.{Address}
 use Rattle.image.specs.Image.{inside}
 use Rattle.image.proofs.Inside.{inside_bounds}
 use Rattle.site.specs.declared.Reading.{Reading}
 use Rattle.site.specs.declared.Run.{Run}
-use Rattle.site.specs.declared.Run.TheVariants.{From, Empty}
 use Rattle.site.specs.declared.Site.{Site}
 use Rattle.site.specs.Named.{names, run_of}
 use Rattle.site.proofs.Covering.{Bounding, site_bounds, names_inside}
@@ -44,14 +43,14 @@ moved N M (inr e) s k = inr (inr (rw e k))
 
 -- ── a list ──
 -- some a of l has M a x
-abbrev Some : (M : ℕ → ℕ → Type 0) (l : List ℕ) → ℕ → Type 0
-Some M l x = (a : ℕ) × (a ∈ l) × M a x
+abbrev OneOf : (M : ℕ → ℕ → Type 0) (l : List ℕ) → ℕ → Type 0
+OneOf M l x = (a : ℕ) × (a ∈ l) × M a x
 
-some_nil : (M : ℕ → ℕ → Type 0) (x : ℕ) → ¬ Some M [] x
-some_nil M x s = not-nil s.1
+one_of_nil : (M : ℕ → ℕ → Type 0) (x : ℕ) → ¬ OneOf M [] x
+one_of_nil M x s = not-nil s.1
 
-some_cons : (M : ℕ → ℕ → Type 0) (a : ℕ) (l : List ℕ) (x : ℕ) → (M a x ⊎ Some M l x) ↔ Some M (a ∷ l) x
-some_cons M a l x = (
+one_of_cons : (M : ℕ → ℕ → Type 0) (a : ℕ) (l : List ℕ) (x : ℕ) → (M a x ⊎ OneOf M l x) ↔ OneOf M (a ∷ l) x
+one_of_cons M a l x = (
   ⊎_elim (λ m. (a, here refl, m)) (λ s. (s.0, there s.1, s.2)),
   λ s. ⊎_elim (λ e. inl (rw e at s.2)) (λ k. inr (s.0, k, s.2)) (cases s.1),
 )
@@ -119,16 +118,19 @@ module _ (load last : ℕ) where
   widens_unless true w = widens_nothing (λ x k. clash refl k.0)
   widens_unless false w = widens_same (λ x. (λ m. (refl, m), λ k. k.1)) w
 
-  widens_run : {M : ℕ → Type 0} (run : Run) → Bounding M run → Widens (λ e. widen_run e run) M
-  widens_run Empty none = widens_nothing none
-  widens_run {M} (From a b) bounds = record { widens = widened }
+  abbrev one : (a b : ℕ) → Option Run
+  one a b = Some (record { low = a; high = b })
+
+  widens_run : {M : ℕ → Type 0} (run : Option Run) → Bounding M run → Widens (λ e. widen_run e run) M
+  widens_run None none = widens_nothing none
+  widens_run {M} (Some r) bounds = record { widens = widened }
     where
-      widened : {N : ℕ → Type 0} {e : Extent} → Hull N e → Hull (λ x. N x ⊎ M x) (widen_run e (From a b))
+      widened : {N : ℕ → Type 0} {e : Extent} → Hull N e → Hull (λ x. N x ⊎ M x) (widen_run e (Some r))
       widened {N} {e} h =
           record {
             covers = λ x. ⊎_elim (λ n. omega (arith, h.covers x n)) (λ m. omega (arith, bounds.2 x m));
-            low_at = moved N M (min_of e.low a (dec_le e.low a)) h.low_at bounds.0;
-            high_at = moved N M (max_of e.high b (dec_le e.high b)) h.high_at bounds.1;
+            low_at = moved N M (min_of e.low r.low (dec_le e.low r.low)) h.low_at bounds.0;
+            high_at = moved N M (max_of e.high r.high (dec_le e.high r.high)) h.high_at bounds.1;
           }
 
   -- ── the passes ──
@@ -136,11 +138,11 @@ module _ (load last : ℕ) where
   abbrev Entry : (a x : ℕ) → Type 0
   Entry a x = T (inside load last a) × (x ≡ a)
 
-  entries_widen : (entries : List ℕ) → Widens (over_entries load last entries) (Some Entry entries)
+  entries_widen : (entries : List ℕ) → Widens (over_entries load last entries) (OneOf Entry entries)
   unfolding over_entries
-  entries_widen [] = widens_nothing (some_nil Entry)
+  entries_widen [] = widens_nothing (one_of_nil Entry)
   entries_widen (a ∷ l) =
-      widens_same (some_cons Entry a l) (widens_then (widens_if (inside load last a) (λ t. widens_run (From a a) (refl, refl, λ x e. omega arith))) (entries_widen l))
+      widens_same (one_of_cons Entry a l) (widens_then (widens_if (inside load last a) (λ t. widens_run (one a a) (refl, refl, λ x e. omega arith))) (entries_widen l))
 
   module _ (reading : Reading) (site : ℕ → Site) where
     -- the bytes of a site that is whole, and what its operand names
@@ -150,23 +152,23 @@ module _ (load last : ℕ) where
     site_widens : last < 65536 → (a : ℕ) → ((site a).whole ≡ true → 0 < (site a).len) → Widens (widen_site reading load last a (site a)) (AtSite a)
     site_widens top a filled =
         widens_then
-        (widens_if (site a).whole (λ t. let some = filled (pass (site a).whole t) in widens_run (From a (a + (site a).len - 1)) (omega arith, omega arith, λ x m. omega arith)))
+        (widens_if (site a).whole (λ t. let some = filled (pass (site a).whole t) in widens_run (one a (a + (site a).len - 1)) (omega arith, omega arith, λ x m. omega arith)))
         (widens_run (run_of reading load last (site a)) (site_bounds reading load last (site a) top))
 
     -- a site counts if it is not skipped
-    abbrev Counted : (undecoded : Address) (a x : ℕ) → Type 0
+    abbrev Counted : (undecoded : Option ℕ) (a x : ℕ) → Type 0
     Counted undecoded a x = (is_skipped undecoded a ≡ false) × AtSite a x
 
-    sites_widen : last < 65536 → (undecoded : Address) (l : List ℕ) → ((a : ℕ) → a ∈ l → (site a).whole ≡ true → 0 < (site a).len)
-        → Widens (over_sites reading load last site undecoded l) (Some (Counted undecoded) l)
+    sites_widen : last < 65536 → (undecoded : Option ℕ) (l : List ℕ) → ((a : ℕ) → a ∈ l → (site a).whole ≡ true → 0 < (site a).len)
+        → Widens (over_sites reading load last site undecoded l) (OneOf (Counted undecoded) l)
     unfolding over_sites
-    sites_widen top undecoded [] filled = widens_nothing (some_nil (Counted undecoded))
+    sites_widen top undecoded [] filled = widens_nothing (one_of_nil (Counted undecoded))
     sites_widen top undecoded (a ∷ l) filled =
-        widens_same (some_cons (Counted undecoded) a l)
+        widens_same (one_of_cons (Counted undecoded) a l)
         (widens_then (widens_unless (is_skipped undecoded a) (site_widens top a (filled a (here refl)))) (sites_widen top undecoded l (λ b k. filled b (there k))))
 
 -- ── the extent ──
-module _ (reading : Reading) (load last : ℕ) (site : ℕ → Site) (undecoded : Address) (entries l : List ℕ) where
+module _ (reading : Reading) (load last : ℕ) (site : ℕ → Site) (undecoded : Option ℕ) (entries l : List ℕ) where
   -- what is named, if the instructions that count are those at the addresses of l, but for the one that was not decoded
   abbrev pub NamedOver : ℕ → Type 0
   NamedOver = Named reading load last site entries (λ a. (a ∈ l) × (is_skipped undecoded a ≡ false))
@@ -176,7 +178,7 @@ module _ (reading : Reading) (load last : ℕ) (site : ℕ → Site) (undecoded 
 
   -- what the passes take in
   abbrev Taken : ℕ → Type 0
-  Taken x = Some (Entry load last) entries x ⊎ Some (Counted load last reading site undecoded) l x
+  Taken x = OneOf (Entry load last) entries x ⊎ OneOf (Counted load last reading site undecoded) l x
 
   taken_named : (x : ℕ) → Taken x → NamedOver x
   taken_named x (inl s) = let e = s.2.1 in by_entry (rw e s.1) (rw e s.2.0)

@@ -2,19 +2,13 @@
 
 #![tactic(auto)]
 
-ghost use Rattle.std.specs.Prelude.{◌≡◌, true, suc, ◌+◌, ◌-◌, ◌≤◌, ◌<◌};
-ghost use Rattle.lists.specs.Lists.{scan};
-ghost use Rattle.mos6502.specs.Class.{manual_class};
-ghost use Rattle.image.specs.Image.{Lies};
-ghost use Rattle.address_set.specs.Map.{has};
-ghost use Rattle.site.specs.Site.{site_in};
-ghost use Rattle.extent.specs.Extent.{widen, widen_run, nothing, over_entries, widen_site, is_skipped, extent_of};
+ghost use Rattle.std.specs.Prelude.{◌≡◌, true, ◌+◌, ◌≤◌, ◌<◌};
+ghost use Rattle.extent.specs.Extent.{widen, widen_run, nothing, over_entries, widen_site, is_skipped, extent_in};
 
-use address_set::Found;
-use image::{Address, Bounds};
+use image::{Bounds, Image};
 use site::{Reading, Run, Site};
 
-#[derive(Clone, Copy)]
+#[derive(Clone, Copy, Debug, PartialEq, Eq)]
 pub struct Extent {
     pub low: u16,
     pub high: u16,
@@ -26,17 +20,17 @@ impl Extent {
         ensures { result ≡ widen self a b }
     {
         Extent {
-            low: image::min(self.low, a),
-            high: image::max(self.high, b),
+            low: self.low.min(a),
+            high: self.high.max(b),
         }
     }
 
-    fn widen_run(self, run: Run) -> Extent
+    fn widen_run(self, run: Option<Run>) -> Extent
         ensures { result ≡ widen_run self run }
     {
         match run {
-            Run::From(a, b) => self.widen(a, b),
-            Run::Empty => self,
+            Some(r) => self.widen(r.low, r.high),
+            None => self,
         }
     }
 
@@ -45,27 +39,24 @@ impl Extent {
         requires { s.whole ≡ true → (0 < s.len) × (a + s.len ≤ 65536) }
         ensures { result ≡ widen_site reading bounds.load bounds.last a s self }
     {
-        let whole = s.whole;
-        let len = s.len;
-        let run = site::named(s, bounds, reading);
-        if whole {
-            return self.widen(a, a + (len - 1)).widen_run(run);
-        }
-        self.widen_run(run)
+        let covered = if s.whole {
+            self.widen(a, a + (s.len - 1))
+        } else {
+            self
+        };
+        covered.widen_run(site::named(s, bounds, reading))
     }
 }
 
 // Whether an address is the one that was met and not decoded.
-pub fn is_skipped(undecoded: Address, a: u16) -> bool
+pub fn is_skipped(undecoded: Option<u16>, a: u16) -> bool
     ensures { result ≡ is_skipped undecoded a }
 {
-    match undecoded {
-        Address::At(p) => a == p,
-        Address::Nowhere => false,
-    }
+    undecoded == Some(a)
 }
 
 // With the entries that are inside.
+#[tactic(auto, unfolding(crate::specs::Extent::over_entries))]
 fn over_entries(entries: &[u16], bounds: Bounds) -> Extent
     ensures { result ≡ over_entries bounds.load bounds.last entries.now (nothing bounds.load bounds.last) }
 {
@@ -73,42 +64,34 @@ fn over_entries(entries: &[u16], bounds: Bounds) -> Extent
         low: bounds.last,
         high: bounds.load,
     };
-    let mut i = 0;
-    while i < entries.len() {
-        let x = entries[i];
+    for &x in entries {
         if bounds.inside(x) {
             e = e.widen(x, x);
         }
-        i += 1;
     }
     e
 }
 
 // The range that covers the entries inside and what the sites at the map's members name. `undecoded` is a member that does not count.
+#[tactic(auto, unfolding(crate::specs::Extent::over_sites))]
 pub fn extent_of(
-    image: &[u8],
-    bounds: Bounds,
+    image: Image<'_>,
     entries: &[u16],
     map: &[u8; 8192],
-    undecoded: Address,
+    undecoded: Option<u16>,
     reading: Reading,
 ) -> Extent
-    requires { Lies image.now bounds.load bounds.last }
-    ensures { result ≡ extent_of reading bounds.load bounds.last (site_in manual_class image.now bounds.load bounds.last) undecoded entries.now (scan (has map.now) bounds.load (suc bounds.last - bounds.load)) }
+    ensures { result ≡ extent_in reading image.entry.bytes.now image.entry.bounds.load image.entry.bounds.last undecoded entries.now map.now }
 {
-    let last = bounds.last;
+    let bounds = image.bounds;
     let mut e = over_entries(entries, bounds);
-    let mut from = bounds.load as u32;
-    loop {
-        let Found::At(a) = address_set::next_in(map, from, last) else {
-            return Extent {
-                low: image::min(e.low, e.high),
-                high: e.high,
-            };
-        };
+    for a in address_set::members_in(map, bounds.load, bounds.last) {
         if !is_skipped(undecoded, a) {
-            e = e.widen_site(bounds, a, site::site_at(image, bounds, a), reading);
+            e = e.widen_site(bounds, a, site::site_at(image, a), reading);
         }
-        from = a as u32 + 1;
+    }
+    Extent {
+        low: e.low.min(e.high),
+        high: e.high,
     }
 }

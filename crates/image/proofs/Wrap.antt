@@ -2,7 +2,7 @@
 -- only where load is 0.
 use Rattle.std.proofs.Common.{◌≡◌, ℕ, ◌+◌, ◌-◌, ◌%◌, ◌<◌, ◌≤◌, List, length, ◌∙◌, arith, le-ltb, lt-ltb}
 use native.Mathlib.Decide.{dec_le}
-use Rattle.image.specs.declared.Held.TheVariants.{Absent}
+use Rattle.std.specs.Prelude.{None}
 use Rattle.image.specs.Image.{last, byte_at, after}
 use Rattle.image.specs.Answers.{held, wrapped_byte}
 use Rattle.image.proofs.Inside.{inside_yes, inside_no}
@@ -22,6 +22,6 @@ module _ (image : List ℕ) (load a : ℕ) (some : 0 < length image) (by-top : l
       by (yes p) (no q) = outside (λ x y. q y) (omega arith)
       by (no p) d = outside (λ x y. p x) (omega arith)
 
-pub after_top : (image : List ℕ) (load : ℕ) → 0 < length image → load + length image ≤ 65536 → ¬ (load ≡ 0) → wrapped_byte image load (after 0xFFFF) ≡ Absent
+pub after_top : (image : List ℕ) (load : ℕ) → 0 < length image → load + length image ≤ 65536 → ¬ (load ≡ 0) → wrapped_byte image load (after 0xFFFF) ≡ None
 after_top image load some by-top high =
     wrapped_held image load 0 some by-top (omega arith) ∙ rw (inside_no load (last image load) 0 (λ p q. high (omega arith)))

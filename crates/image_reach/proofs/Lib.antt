@@ -1,2 +1,3 @@
 -- The theorems on the face.
+pub mod Over
 pub mod Unique

@@ -6,12 +6,13 @@ use Rattle.mos6502.specs.Class.{manual_class}
 use Rattle.writes.specs.Writes.{manual_writes}
 use Rattle.site.specs.declared.Reading.{Reading}
 use Rattle.span.specs.declared.Span.{Span}
-use Rattle.span.specs.Answers.{number_of, values_of, end_number_of, end_value_of}
+use Rattle.refusal.specs.Numbers.{number_of}
+use Rattle.span.specs.Answers.{values_of, end_value_of}
 use Rattle.span.proofs.Unique as span
 use Rattle.diagnosis.specs.declared.Summary.{Summary}
-use Rattle.diagnosis.specs.Answers.{number_of as diag_number_of, values_of as diag_values_of}
+use Rattle.diagnosis.specs.Answers.{values_of as diag_values_of}
 use Rattle.diagnosis.proofs.Unique as diagnosis
-use Rattle.stores.specs.Answers.{number_of as stores_number_of, count_of}
+use Rattle.stores.specs.Answers.{count_of}
 use Rattle.stores.proofs.Unique as stores
 use Rattle.image_reach.specs.Face.{TellsSpan, TellsEnd, TellsDiagnosis, TellsStores, TellsTracker}
 
@@ -30,7 +31,7 @@ module _ {image : List ℕ} {load : ℕ} {entries : List ℕ} where
   pub end_unique : {n high n' high' : ℕ} → TellsEnd image load entries n high → TellsEnd image load entries n' high' → (n ≡ n') × (high ≡ high')
   end_unique p q =
       let e = span.end_unique manual_class image load entries p.answer q.answer p.holds q.holds in
-      (alike end_number_of e p.number q.number, alike end_value_of e p.value q.value)
+      (alike number_of e p.number q.number, alike end_value_of e p.value q.value)
 
   pub diagnosis_unique : {slots slots' slots'' : List ℕ} {n low high count records n' low' high' count' records' : ℕ}
       → TellsDiagnosis image load entries slots slots' n low high count records → TellsDiagnosis image load entries slots slots'' n' low' high' count' records'
@@ -39,7 +40,7 @@ module _ {image : List ℕ} {load : ℕ} {entries : List ℕ} where
       let e = diagnosis.answers_unique manual_class image load entries slots slots' slots'' p.answer q.answer p.holds q.holds in
       let v = alike diag_values_of e.0 p.values q.values in (
         e.1,
-        alike diag_number_of e.0 p.number q.number,
+        alike number_of e.0 p.number q.number,
         ap (λ (s : Summary). s.low) v,
         ap (λ (s : Summary). s.high) v,
         ap (λ (s : Summary). s.count) v,
@@ -50,7 +51,7 @@ module _ {image : List ℕ} {load : ℕ} {entries : List ℕ} where
       → TellsStores image load entries slots slots'' n' records' → (slots' ≡ slots'') × (n ≡ n') × (records ≡ records')
   stores_unique {slots} {slots'} {slots''} p q =
       let e = stores.answers_unique manual_class manual_writes image load entries slots slots' slots'' p.answer q.answer p.holds q.holds in
-      (e.1, alike stores_number_of e.0 p.number q.number, alike count_of e.0 p.value q.value)
+      (e.1, alike number_of e.0 p.number q.number, alike count_of e.0 p.value q.value)
 
 pub tracker_unique : {code registers known zp marks registers' known' zp' marks' : List ℕ} → TellsTracker code registers known zp marks
     → TellsTracker code registers' known' zp' marks' → (registers ≡ registers') × (known ≡ known') × (zp ≡ zp') × (marks ≡ marks')

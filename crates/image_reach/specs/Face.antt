@@ -1,19 +1,16 @@
 -- What each C function tells: 01's number and values of an answer of which the plain call's statement holds. Assumes nothing.
-use Rattle.std.specs.Prelude.{◌≡◌, List, [], ◌∷◌, ℕ}
+use Rattle.std.specs.Prelude.{◌≡◌, List, [], ◌∷◌, map, ℕ, Option, Some, None, Result}
+use Rattle.refusal.specs.declared.Refusal.{Refusal}
+use Rattle.refusal.specs.Numbers.{number_of}
 use Rattle.mos6502.specs.Class.{manual_class}
 use Rattle.writes.specs.Writes.{manual_writes}
 use Rattle.site.specs.declared.Reading.{Reading}
 use Rattle.span.specs.declared.Span.{Span}
-use Rattle.span.specs.declared.SpanAnswer.{SpanAnswer}
-use Rattle.span.specs.declared.EndAnswer.{EndAnswer}
-use Rattle.span.specs.Answers.{number_of, values_of, end_number_of, end_value_of}
+use Rattle.span.specs.Answers.{values_of, end_value_of}
 use Rattle.span.specs.Given.{Answers, EndAnswers}
-use Rattle.diagnosis.specs.declared.DiagAnswer.{DiagAnswer}
-use Rattle.diagnosis.specs.Answers.{number_of as diag_number_of, values_of as diag_values_of, Answers as DiagAnswers}
-use Rattle.stores.specs.declared.StoresAnswer.{StoresAnswer}
-use Rattle.stores.specs.Answers.{number_of as stores_number_of, count_of, Answers as StoresAnswers}
-use Rattle.tracker.specs.declared.Known.{Known}
-use Rattle.tracker.specs.declared.Known.TheVariants.{Value, Unknown}
+use Rattle.diagnosis.specs.declared.Summary.{Summary}
+use Rattle.diagnosis.specs.Answers.{values_of as diag_values_of, Answers as DiagAnswers}
+use Rattle.stores.specs.Answers.{count_of, Answers as StoresAnswers}
 use Rattle.tracker.specs.Track.{tracked}
 
 -- ── values ──
@@ -21,53 +18,49 @@ use Rattle.tracker.specs.Track.{tracked}
 abbrev pub span_of : (low high count : ℕ) → Span
 span_of low high count = record { low = low; high = high; count = count }
 
--- a refusal's numbers
-abbrev pub no_span : Span
-no_span = span_of 0 0 0
-
--- a register's value, 0 where it is not known
-abbrev pub value_of : Known → ℕ
-value_of (Value v) = v
-value_of Unknown = 0
+-- the value of a register or of a zero-page byte, 0 where it is not known
+abbrev pub value_of : Option ℕ → ℕ
+value_of (Some v) = v
+value_of None = 0
 
 -- 1 where it is known
-abbrev pub mark_of : Known → ℕ
-mark_of (Value v) = 1
-mark_of Unknown = 0
+abbrev pub mark_of : Option ℕ → ℕ
+mark_of (Some v) = 1
+mark_of None = 0
 
 -- ── calls on an image ──
 module _ (image : List ℕ) (load : ℕ) (entries : List ℕ) where
   -- a span by a reading
   pub record TellsSpan (reading : Reading) (n low high count : ℕ) : Type 0 where
-    pub answer : SpanAnswer
+    pub answer : Result Span Refusal
     pub holds : Answers manual_class image load entries reading answer
     pub number : n ≡ number_of answer
     pub values : span_of low high count ≡ values_of answer
 
   -- the end of the plain span
   pub record TellsEnd (n high : ℕ) : Type 0 where
-    pub answer : EndAnswer
+    pub answer : Result ℕ Refusal
     pub holds : EndAnswers manual_class image load entries answer
-    pub number : n ≡ end_number_of answer
+    pub number : n ≡ number_of answer
     pub value : high ≡ end_value_of answer
 
   -- the diagnosis, and the slots before and after
   pub record TellsDiagnosis (slots slots' : List ℕ) (n low high count records : ℕ) : Type 0 where
-    pub answer : DiagAnswer
+    pub answer : Result Summary Refusal
     pub holds : DiagAnswers manual_class image load entries slots slots' answer
-    pub number : n ≡ diag_number_of answer
+    pub number : n ≡ number_of answer
     pub values : record { low = low; high = high; count = count; records = records } ≡ diag_values_of answer
 
   -- the store spans, and the slots before and after
   pub record TellsStores (slots slots' : List ℕ) (n records : ℕ) : Type 0 where
-    pub answer : StoresAnswer
+    pub answer : Result ℕ Refusal
     pub holds : StoresAnswers manual_class manual_writes image load entries slots slots' answer
-    pub number : n ≡ stores_number_of answer
+    pub number : n ≡ number_of answer
     pub value : records ≡ count_of answer
 
 -- ── the tracker: A, X, Y and their marks, the zero page and its marks ──
 pub record TellsTracker (code registers known zp marks : List ℕ) : Type 0 where
   pub values : registers ≡ value_of (tracked code).regs.a ∷ value_of (tracked code).regs.x ∷ value_of (tracked code).regs.y ∷ []
   pub which : known ≡ mark_of (tracked code).regs.a ∷ mark_of (tracked code).regs.x ∷ mark_of (tracked code).regs.y ∷ []
-  pub zero_page : zp ≡ (tracked code).zp
-  pub marked : marks ≡ (tracked code).marks
+  pub zero_page : zp ≡ map value_of (tracked code).zp
+  pub marked : marks ≡ map mark_of (tracked code).zp

@@ -9,7 +9,8 @@ use lib.ListN.{length, length-take, length-drop}
 use borrow.Author.Tests.{le-ltb, ltb-false}
 use Rattle.lists.proofs.Tests.{passed, and_right, clash}
 use Rattle.job.specs.declared.Job.{Job}
-use Rattle.job.specs.declared.JobAnswer.TheVariants.{Read, Short, TooLarge, Wrong}
+use Rattle.std.specs.Prelude.{Ok, Err}
+use Rattle.job.specs.declared.JobError.TheVariants.{Short, TooLarge, Wrong}
 use Rattle.job.specs.Job.{word32, headed, is_large, is_right, job_of, entries_of, image_of}
 use Rattle.job.proofs.Words.{words_length}
 
@@ -33,13 +34,13 @@ image_follows bytes e = rw e
 
 -- ── which answer, where there is a header ──
 module _ (bytes : List ℕ) {job : Job} (header : 16 ≤ length bytes) (head : job ≡ headed bytes) where
-  pub answer_9 : is_large job ≡ true → TooLarge ≡ job_of bytes
+  pub answer_9 : is_large job ≡ true → Err TooLarge ≡ job_of bytes
   answer_9 large = rw (le-ltb _ _ header, rw head at large)
 
-  pub answer_10 : is_large job ≡ false → is_right bytes job ≡ false → Wrong ≡ job_of bytes
+  pub answer_10 : is_large job ≡ false → is_right bytes job ≡ false → Err Wrong ≡ job_of bytes
   answer_10 large right = rw (le-ltb _ _ header, rw head at large, rw head at right)
 
-  pub answer_0 : is_large job ≡ false → is_right bytes job ≡ true → Read job ≡ job_of bytes
+  pub answer_0 : is_large job ≡ false → is_right bytes job ≡ true → Ok job ≡ job_of bytes
   answer_0 large right = rw (le-ltb _ _ header, rw head at large, rw head at right, head)
 
 -- ── the parts of a job that is read ──
@@ -56,14 +57,14 @@ record Passed (bytes : List ℕ) (job : Job) : Type 0 where
   large : is_large job ≡ false
   right : is_right bytes job ≡ true
 
-pub parts : (bytes : List ℕ) {job : Job} → job_of bytes ≡ Read job → Parts bytes job
+pub parts : (bytes : List ℕ) {job : Job} → job_of bytes ≡ Ok job → Parts bytes job
 parts bytes {job} e = laid (passed_all (ltb (length bytes) 16) (is_large (headed bytes)) refl (is_right bytes (headed bytes)) refl e)
   where
     passed_all : (a b : Bool) → is_large (headed bytes) ≡ b → (d : Bool) → is_right bytes (headed bytes) ≡ d
-        → cond a Short (cond b TooLarge (cond d (Read (headed bytes)) Wrong)) ≡ Read job → Passed bytes job
-    passed_all true b p d q e = let z : ◌≡◌ {A = ℕ} 0 1 = cc in absurd (omega arith)
-    passed_all false true p d q e = let z : ◌≡◌ {A = ℕ} 0 1 = cc in absurd (omega arith)
-    passed_all false false p false q e = let z : ◌≡◌ {A = ℕ} 0 1 = cc in absurd (omega arith)
+        → cond a (Err Short) (cond b (Err TooLarge) (cond d (Ok (headed bytes)) (Err Wrong))) ≡ Ok job → Passed bytes job
+    passed_all true b p d q e = cc
+    passed_all false true p d q e = cc
+    passed_all false false p false q e = cc
     passed_all false false p true q e =
         let same : job ≡ headed bytes = cc in
         record { head = same; large = rw same p; right = rw same q }

@@ -11,7 +11,7 @@ use lib.Seq.{take-length, drop_at, get_or-append-add}
 use borrow.Author.Tests.{le-ltb, eq-eqb}
 use Rattle.lists.specs.Lists.{◌∈◌}
 use Rattle.job.specs.declared.Job.{Job}
-use Rattle.job.specs.declared.JobAnswer.TheVariants.{Read}
+use Rattle.std.specs.Prelude.{Ok}
 use Rattle.job.specs.Job.{word16, word32, headed, is_large, is_right, words_at, job_of, entries_of, image_of}
 use Rattle.job.specs.Written.{bytes16, bytes32, header_of, words_of, job_for, job_bytes}
 use Rattle.job.proofs.Parts.{answer_0}
@@ -19,7 +19,7 @@ use Rattle.job.proofs.Placing.{header_length, words_of_length}
 
 -- the bytes of a job are read as that job, with the entries and the image that were written
 pub record ReadBack (load : ℕ) (entries image : List ℕ) : Type 0 where
-  pub job_read : job_of (job_bytes load entries image) ≡ Read (job_for load entries image)
+  pub job_read : job_of (job_bytes load entries image) ≡ Ok (job_for load entries image)
   pub entries_read : entries_of (job_bytes load entries image) (job_for load entries image) ≡ entries
   pub image_read : image_of (job_bytes load entries image) (job_for load entries image) ≡ image
 

@@ -1,16 +1,15 @@
 -- The job file (01, "Job file and `reachreport`"). Header, little-endian: load (2 bytes), entry count E (2), image length N (4), offset of entries (4, always 16), offset
 -- of image (4, always 16 + 2E). Then entries, then image; total 16 + 2E + N. Assumes nothing.
-use Rattle.std.specs.Prelude.{Bool, cond, ◌&&◌, ◌||◌, List, [], ◌∷◌, ◌++◌, ℕ, zero, suc, ◌+◌, ◌*◌, eqb, ltb, length, get_or, take, drop}
+use Rattle.std.specs.Prelude.{Bool, cond, ◌&&◌, ◌||◌, List, [], ◌∷◌, ◌++◌, ℕ, zero, suc, ◌+◌, ◌*◌, eqb, ltb, length, get_or, take, drop, Result, Ok, Err}
 use Rattle.job.specs.declared.Job.{Job}
-use Rattle.job.specs.declared.JobAnswer.{JobAnswer}
-use Rattle.job.specs.declared.JobAnswer.TheVariants.{Read, Short, TooLarge, Wrong}
+use Rattle.job.specs.declared.JobError.{JobError}
+use Rattle.job.specs.declared.JobError.TheVariants.{Short, TooLarge, Wrong}
 
--- ── 01's numbers ──
-abbrev pub number_of : JobAnswer → ℕ
-number_of (Read job) = 0
-number_of Short = 8
-number_of TooLarge = 9
-number_of Wrong = 10
+-- ── 01's numbers of a refused job ──
+abbrev pub number : JobError → ℕ
+number Short = 8
+number TooLarge = 9
+number Wrong = 10
 
 -- ── the header ──
 -- two and four bytes from i on, the least significant first
@@ -34,10 +33,10 @@ abbrev pub is_right : (bytes : List ℕ) → Job → Bool
 is_right bytes job = eqb (word32 bytes 8) 16 && (eqb (word32 bytes 12) job.image && eqb (length bytes) (job.image + job.size))
 
 -- 8, 9 and 10 in this order
-abbrev pub job_of : (bytes : List ℕ) → JobAnswer
+abbrev pub job_of : (bytes : List ℕ) → Result Job JobError
 job_of bytes =
-    cond (ltb (length bytes) 16) Short
-    (cond (is_large (headed bytes)) TooLarge (cond (is_right bytes (headed bytes)) (Read (headed bytes)) Wrong))
+    cond (ltb (length bytes) 16) (Err Short)
+    (cond (is_large (headed bytes)) (Err TooLarge) (cond (is_right bytes (headed bytes)) (Ok (headed bytes)) (Err Wrong)))
 
 -- ── what is read ──
 -- n words from i on
@@ -52,8 +51,6 @@ abbrev pub image_of : (bytes : List ℕ) → Job → List ℕ
 image_of bytes job = take job.size (drop job.image bytes)
 
 -- the entries go to the first slots of the lent list, and a refusal writes none
-abbrev pub entries_in : (bytes slots : List ℕ) → JobAnswer → List ℕ
-entries_in bytes slots (Read job) = entries_of bytes job ++ drop job.count slots
-entries_in bytes slots Short = slots
-entries_in bytes slots TooLarge = slots
-entries_in bytes slots Wrong = slots
+abbrev pub entries_in : (bytes slots : List ℕ) → Result Job JobError → List ℕ
+entries_in bytes slots (Ok job) = entries_of bytes job ++ drop job.count slots
+entries_in bytes slots (Err e) = slots

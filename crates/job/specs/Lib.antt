@@ -1,3 +1,4 @@
 -- The job file.
 pub mod Job
 pub mod Written
+pub mod Sentences

@@ -1,8 +1,8 @@
 -- A job, written (01, "Job file and `reachreport`"): what its parts make of it, in the layout that `Job` reads. Assumes nothing.
-use Rattle.std.specs.Prelude.{cond, List, [], ◌∷◌, ◌++◌, ℕ, ◌+◌, ◌*◌, ◌/◌, ◌%◌, ltb, length, take, drop}
+use Rattle.std.specs.Prelude.{cond, List, [], ◌∷◌, ◌++◌, ℕ, ◌+◌, ◌*◌, ◌/◌, ◌%◌, ltb, length, take, drop, Result, Ok, Err}
 use Rattle.job.specs.declared.Job.{Job}
-use Rattle.job.specs.declared.WriteAnswer.{WriteAnswer}
-use Rattle.job.specs.declared.WriteAnswer.TheVariants.{Written, TooLarge, Short}
+use Rattle.job.specs.declared.WriteError.{WriteError}
+use Rattle.job.specs.declared.WriteError.TheVariants.{TooLarge, Short}
 use Rattle.job.specs.Job.{is_large}
 
 -- ── the bytes ──
@@ -32,16 +32,15 @@ job_bytes load entries image = header_of (job_for load entries image) ++ words_o
 
 -- ── the answer, and the lent buffer ──
 -- too large, too short a buffer with the number needed, or written with the number of bytes
-abbrev pub written_of : Job → (room : ℕ) → WriteAnswer
+abbrev pub written_of : Job → (room : ℕ) → Result ℕ WriteError
 written_of job room =
-    cond (is_large job) TooLarge (cond (ltb room (job.image + job.size)) (Short (job.image + job.size)) (Written (job.image + job.size)))
+    cond (is_large job) (Err TooLarge) (cond (ltb room (job.image + job.size)) (Err (Short (job.image + job.size))) (Ok (job.image + job.size)))
 
 -- a buffer, with `part` from n on
 abbrev pub placed : (out : List ℕ) (n : ℕ) (part : List ℕ) → List ℕ
 placed out n part = take n out ++ part ++ drop (n + length part) out
 
 -- the job goes to the front of the buffer, and a refusal writes nothing
-abbrev pub job_in : (bytes out : List ℕ) → WriteAnswer → List ℕ
-job_in bytes out (Written n) = placed out 0 bytes
-job_in bytes out TooLarge = out
-job_in bytes out (Short n) = out
+abbrev pub job_in : (bytes out : List ℕ) → Result ℕ WriteError → List ℕ
+job_in bytes out (Ok n) = placed out 0 bytes
+job_in bytes out (Err e) = out

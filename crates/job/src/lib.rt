@@ -2,9 +2,13 @@
 
 #![tactic(auto)]
 
-ghost use Rattle.std.specs.Prelude.{◌≡◌, ◌++◌, ◌+◌, ◌*◌, ◌≤◌, ◌<◌, length, drop};
+ghost use Rattle.std.specs.Prelude.{◌≡◌, ◌++◌, ◌+◌, ◌*◌, ◌≤◌, ◌<◌, length, drop, Some};
 ghost use Rattle.job.specs.Written.{bytes16, bytes32, header_of, words_of, job_for, job_bytes, written_of, placed, job_in};
-ghost use Rattle.job.specs.Job.{word16, word32, headed, is_large, is_right, words_at, job_of, entries_in};
+ghost use Rattle.job.specs.Job.{number, word16, word32, headed, is_large, is_right, words_at, job_of, entries_in};
+ghost use Rattle.job.specs.Sentences.{read_sentence, write_sentence};
+
+use std::error::Error;
+use std::fmt;
 
 // The length of the header.
 const HEADER: usize = 16;
@@ -25,41 +29,77 @@ pub struct Job {
     pub size: usize,
 }
 
-// 01's answers 0, 8, 9 and 10.
-#[derive(Clone, Copy)]
-pub enum JobAnswer {
-    Read(Job),
+/// Why bytes are no job: they are shorter than a header; they have too many entries or too long an image; or an offset or their length is wrong.
+#[derive(Clone, Copy, Debug, PartialEq, Eq)]
+pub enum JobError {
     Short,
     TooLarge,
     Wrong,
 }
 
-// A job was written, in so many bytes; it has too many entries or too long an image; or the lent buffer is shorter than it.
-#[derive(Clone, Copy)]
-pub enum WriteAnswer {
-    Written(usize),
+impl JobError {
+    /// The number that 01 gives the refusal.
+    pub fn number(self) -> u8
+        ensures { result ≡ number self }
+    {
+        match self {
+            JobError::Short => 8,
+            JobError::TooLarge => 9,
+            JobError::Wrong => 10,
+        }
+    }
+}
+
+impl fmt::Display for JobError {
+    ghost output = { λ e. Some (read_sentence e) };
+
+    fn fmt<W: fmt::Write>(&self, f: &mut fmt::Formatter<W>) -> fmt::Result {
+        f.write_str(match self {
+            JobError::Short => "the job is shorter than its header",
+            JobError::TooLarge => "the job has too many entries or too long an image",
+            JobError::Wrong => "an offset or the length of the job is wrong",
+        })
+    }
+}
+
+impl Error for JobError {}
+
+/// Why a job is not written: it has too many entries or too long an image; or the lent buffer is shorter than the bytes that it needs.
+#[derive(Clone, Copy, Debug, PartialEq, Eq)]
+pub enum WriteError {
     TooLarge,
     Short(usize),
 }
 
+impl fmt::Display for WriteError {
+    ghost output = { λ e. Some (write_sentence e) };
+
+    fn fmt<W: fmt::Write>(&self, f: &mut fmt::Formatter<W>) -> fmt::Result {
+        match self {
+            WriteError::TooLarge => write!(f, "the job has too many entries or too long an image"),
+            WriteError::Short(n) => write!(f, "the job needs {n} bytes"),
+        }
+    }
+}
+
+impl Error for WriteError {}
+
 // Two bytes from `i` on, the least significant first.
+#[tactic(auto, unfolding(crate::specs::Job::word16))]
 pub fn word16(bytes: &[u8], i: usize) -> u16
     requires { i + 1 < length bytes.now }
     ensures { result ≡ word16 bytes.now i }
 {
-    let low = bytes[i];
-    let high = bytes[i + 1];
-    low as u16 + 256 * (high as u16)
+    u16::from_le_bytes([bytes[i], bytes[i + 1]])
 }
 
 // Four bytes from `i` on, the least significant first.
+#[tactic(auto, unfolding(crate::specs::Job::word16, crate::specs::Job::word32))]
 pub fn word32(bytes: &[u8], i: usize) -> u32
     requires { i + 3 < length bytes.now }
     ensures { result ≡ word32 bytes.now i }
 {
-    let low = word16(bytes, i);
-    let high = word16(bytes, i + 2);
-    low as u32 + 65536 * (high as u32)
+    u32::from_le_bytes([bytes[i], bytes[i + 1], bytes[i + 2], bytes[i + 3]])
 }
 
 // What the header says of a job, whose image is to follow its entries.
@@ -90,13 +130,9 @@ fn is_right(bytes: &[u8], job: Job) -> bool
     requires { (16 ≤ length bytes.now) × (job.image + job.size < 0x100000000) }
     ensures { result ≡ is_right bytes.now job }
 {
-    if word32(bytes, 8) as usize != HEADER {
-        return false;
-    }
-    if word32(bytes, 12) as usize != job.image {
-        return false;
-    }
-    bytes.len() == job.image + job.size
+    word32(bytes, 8) as usize == HEADER
+        && word32(bytes, 12) as usize == job.image
+        && bytes.len() == job.image + job.size
 }
 
 // Decodes the entries into the first slots of the lent list.
@@ -104,47 +140,56 @@ fn read_entries(bytes: &[u8], count: usize, entries: &mut [u16; 1024])
     requires { (16 + 2 * count ≤ length bytes.now) × (count ≤ 1024) }
     ensures { entries.new ≡ words_at bytes.now 16 count ++ drop count entries.old }
 {
-    // As a slice, it tells the proof its length.
-    let slots = &mut entries[..];
-    for i in 0..count {
-        slots[i] = word16(bytes, HEADER + 2 * i);
+    let slots = &mut entries[..count];
+    let mut n = HEADER;
+    for slot in slots.iter_mut() {
+        *slot = word16(bytes, n);
+        n += 2;
     }
 }
 
 // Reads a job. Its entries go to the first slots of the lent list.
-pub fn read_job(bytes: &[u8], entries: &mut [u16; 1024]) -> JobAnswer
+pub fn read_job(bytes: &[u8], entries: &mut [u16; 1024]) -> Result<Job, JobError>
     ensures { (result ≡ job_of bytes.now) × (entries.new ≡ entries_in bytes.now entries.old result) }
 {
     if bytes.len() < HEADER {
-        return JobAnswer::Short;
+        return Err(JobError::Short);
     }
     let job = header(bytes);
     if is_large(job) {
-        return JobAnswer::TooLarge;
+        return Err(JobError::TooLarge);
     }
     if !is_right(bytes, job) {
-        return JobAnswer::Wrong;
+        return Err(JobError::Wrong);
     }
     read_entries(bytes, job.count, entries);
-    JobAnswer::Read(job)
+    Ok(job)
+}
+
+// Puts bytes at `n`.
+fn put_bytes(out: &mut [u8], n: usize, bytes: &[u8])
+    requires { n + length bytes.now ≤ length out.old }
+    ensures { out.new ≡ placed out.old n bytes.now }
+{
+    out[n..n + bytes.len()].copy_from_slice(bytes);
 }
 
 // Puts a number's two bytes at `n`, the least significant first.
-fn put16(out: &mut [u8], n: usize, value: u16)
+#[tactic(auto, unfolding(crate::specs::Written::bytes16))]
+fn put16(out: &mut [u8], n: usize, word: u16)
     requires { n + 2 ≤ length out.old }
-    ensures { out.new ≡ placed out.old n (bytes16 value) }
+    ensures { out.new ≡ placed out.old n (bytes16 word) }
 {
-    out[n] = (value % 256) as u8;
-    out[n + 1] = (value / 256) as u8;
+    put_bytes(out, n, &word.to_le_bytes());
 }
 
 // Puts a number's four bytes at `n`, the least significant first.
+#[tactic(auto, unfolding(crate::specs::Written::bytes16, crate::specs::Written::bytes32))]
 fn put32(out: &mut [u8], n: usize, value: u32)
     requires { n + 4 ≤ length out.old }
     ensures { out.new ≡ placed out.old n (bytes32 value) }
 {
-    put16(out, n, (value % 65536) as u16);
-    put16(out, n + 2, (value / 65536) as u16);
+    put_bytes(out, n, &value.to_le_bytes());
 }
 
 // Puts the header of a job whose numbers fit their bytes.
@@ -167,23 +212,20 @@ fn put_entries(out: &mut [u8], entries: &[u16])
     requires { 16 + 2 * length entries.now ≤ length out.old }
     ensures { out.new ≡ placed out.old 16 (words_of entries.now) }
 {
-    for i in 0..entries.len() {
-        put16(out, HEADER + 2 * i, entries[i]);
-    }
-}
-
-// Puts bytes at `n`.
-fn put_bytes(out: &mut [u8], n: usize, bytes: &[u8])
-    requires { n + length bytes.now ≤ length out.old }
-    ensures { out.new ≡ placed out.old n bytes.now }
-{
-    for i in 0..bytes.len() {
-        out[n + i] = bytes[i];
+    let mut n = HEADER;
+    for &e in entries {
+        put16(out, n, e);
+        n += 2;
     }
 }
 
 // Writes a job to the front of the lent buffer, or leaves the buffer as it was.
-pub fn write_job(load: u16, entries: &[u16], image: &[u8], out: &mut [u8]) -> WriteAnswer
+pub fn write_job(
+    load: u16,
+    entries: &[u16],
+    image: &[u8],
+    out: &mut [u8],
+) -> Result<usize, WriteError>
     ensures { (result ≡ written_of (job_for load entries.now image.now) (length out.old)) × (out.new ≡ job_in (job_bytes load entries.now image.now) out.old result) }
 {
     let count = entries.len();
@@ -194,14 +236,14 @@ pub fn write_job(load: u16, entries: &[u16], image: &[u8], out: &mut [u8]) -> Wr
         size: image.len(),
     };
     if is_large(job) {
-        return WriteAnswer::TooLarge;
+        return Err(WriteError::TooLarge);
     }
     let needed = job.image + job.size;
     if out.len() < needed {
-        return WriteAnswer::Short(needed);
+        return Err(WriteError::Short(needed));
     }
     put_header(out, job);
     put_entries(out, entries);
     put_bytes(out, job.image, image);
-    WriteAnswer::Written(needed)
+    Ok(needed)
 }

@@ -1,5 +1,5 @@
 -- An array read as a stack: its top, what a push does to it; and a list turned round has the same elements.
-use mathlib.Core.Path.{◌≡◌, refl, ap, ap₂}
+use mathlib.Core.Path.{◌≡◌, refl, sym, ap, ap₂, ◌∙◌}
 use mathlib.Core.Logic.{◌≢◌, ◌↔◌, ⊎_elim}
 use mathlib.Core.List.Memᴰ.{append_cases as split}
 use mathlib.Core.List.Memᴰ.{append_left as in_left}
@@ -8,12 +8,13 @@ use mathlib.Core.List.Memᴰ.{cases_cons as cases}
 use mathlib.Core.List.Memᴰ.{eq_of_singleton as single}
 use mathlib.Core.List.Memᴰ.{head as here}
 use mathlib.Core.List.Memᴰ.{tail as there}
-use mathlib.Core.List.{List, [], ◌∷◌, ◌++◌}
+use mathlib.Core.List.{List, [], ◌∷◌, ◌++◌, reverse}
 use Prim.Native.Nat.{ℕ, zero, suc, ◌+◌, ◌-◌, ◌≤◌, ◌<◌}
 use native.Mathlib.Numerals.{add-one}
 use native.Mathlib.Omega.{arith}
 use lib.ListN.{length, get_or, set}
 use lib.Seq.{get_or-set_same, get_or-set_other}
+use Rattle.std.proofs.lemmas.Grind.{reverse_onto}
 use Rattle.lists.specs.Lists.{◌∈◌, stack, last_first}
 
 pub stack_length : (l : List ℕ) (n : ℕ) → length (stack l n) ≡ n
@@ -38,6 +39,11 @@ stack_push l n v h = rw add-one (ap₂ (λ (x : ℕ) (xs : List ℕ). x ∷ xs) 
 stack_cons : (x : ℕ) (l : List ℕ) (n : ℕ) → stack (x ∷ l) (suc n) ≡ stack l n ++ (x ∷ [])
 stack_cons x l zero = refl
 stack_cons x l (suc n) = ap (λ (k : List ℕ). get_or l n 0 ∷ k) (stack_cons x l n)
+
+pub last_first_reverse : (l : List ℕ) → last_first l ≡ reverse l
+last_first_reverse [] = refl
+last_first_reverse (x ∷ l) =
+    stack_cons x l (length l) ∙ ap (λ (k : List ℕ). k ++ (x ∷ [])) (last_first_reverse l) ∙ sym (reverse_onto l x [])
 
 pub last_first_mem : (l : List ℕ) (a : ℕ) → a ∈ last_first l ↔ a ∈ l
 last_first_mem [] a = (λ k. k, λ k. k)

@@ -6,31 +6,17 @@ ghost use Rattle.std.specs.Prelude.{◌≡◌, ◌<◌, ◌≤◌, length, get_o
 ghost use Rattle.std.specs.Io.KnownBytes.{Consumes, IsAtEnd, Keeps};
 ghost use Rattle.makejob.specs.Words.{digit_of, mark_of, address_of, input_of};
 
-use job::WriteAnswer;
+use job::WriteError;
 use reading::read_full;
 use std::env::{Env, FillError};
 use std::io;
 use std::io::{Read, Write};
 
-// What a word spells.
-#[derive(Clone, Copy)]
-pub enum Parsed {
-    Address(u16),
-    Other,
-}
-
-// Where an image's load address comes from: an argument, or its own first two bytes.
+// Where an image's load address comes from: an argument, or its own first two bytes. Not an `Option`, since a prg lacks no address.
 #[derive(Clone, Copy)]
 pub enum Load {
     Told(u16),
     Prg,
-}
-
-// The load address of an input, and where its image begins; or a prg that is shorter than its load address.
-#[derive(Clone, Copy)]
-pub enum Input {
-    Image(u16, usize),
-    Cut,
 }
 
 // The length of the largest job.
@@ -39,15 +25,15 @@ const MOST: usize = 16 + 2 * job::MOST_ENTRIES + job::MOST_BYTES;
 // The longest argument that is read whole.
 const MOST_WORD: usize = 4096;
 
-// The value of a hexadecimal digit, or 16.
-fn digit(c: u8) -> u8
+// The value of a hexadecimal digit, if the byte is one.
+fn digit(c: u8) -> Option<u8>
     ensures { result ≡ digit_of c }
 {
     match c {
-        b'0'..=b'9' => c - b'0',
-        b'A'..=b'F' => c - b'A' + 10,
-        b'a'..=b'f' => c - b'a' + 10,
-        _ => 16,
+        b'0'..=b'9' => Some(c - b'0'),
+        b'A'..=b'F' => Some(c - b'A' + 10),
+        b'a'..=b'f' => Some(c - b'a' + 10),
+        _ => None,
     }
 }
 
@@ -55,57 +41,47 @@ fn digit(c: u8) -> u8
 fn byte(word: &[u8], i: usize) -> u8
     ensures { result ≡ get_or word.now i 0 }
 {
-    if i < word.len() { word[i] } else { 0 }
+    word.get(i).copied().unwrap_or(0)
 }
 
 // The length of a `$` or `0x` in front.
 fn mark(word: &[u8]) -> usize
     ensures { result ≡ mark_of word.now }
 {
-    let first = byte(word, 0);
-    if first == b'$' {
-        return 1;
+    match (byte(word, 0), byte(word, 1)) {
+        (b'$', _) => 1,
+        (b'0', b'x') => 2,
+        _ => 0,
     }
-    if first != b'0' {
-        return 0;
-    }
-    if byte(word, 1) == b'x' { 2 } else { 0 }
 }
 
-// The address that a word spells.
-fn address(word: &[u8]) -> Parsed
+// The address that a word spells, if it spells one.
+fn address(word: &[u8]) -> Option<u16>
     ensures { result ≡ address_of word.now }
 {
     let from = mark(word);
     if word.len() <= from {
-        return Parsed::Other;
+        return None;
     }
     let mut value: u32 = 0;
-    for i in from..word.len() {
-        let d = digit(word[i]);
-        if d > 15 {
-            return Parsed::Other;
-        }
+    for &c in &word[from..] {
+        let d = digit(c)?;
         value = 16 * value + d as u32;
         if value > 0xFFFF {
-            return Parsed::Other;
+            return None;
         }
     }
-    Parsed::Address(value as u16)
+    Some(value as u16)
 }
 
-// The load address of what was read, and where its image begins.
-fn image_in(load: Load, bytes: &[u8]) -> Input
+// The load address of what was read, and where its image begins; nothing where a prg is shorter than its load address.
+fn image_in(load: Load, bytes: &[u8]) -> Option<(u16, usize)>
     ensures { result ≡ input_of load bytes.now }
 {
     match load {
-        Load::Told(a) => Input::Image(a, 0),
-        Load::Prg => {
-            if bytes.len() < 2 {
-                return Input::Cut;
-            }
-            Input::Image(job::word16(bytes, 0), 2)
-        }
+        Load::Told(a) => Some((a, 0)),
+        Load::Prg if bytes.len() < 2 => None,
+        Load::Prg => Some((job::word16(bytes, 0), 2)),
     }
 }
 
@@ -119,14 +95,11 @@ fn word_count(rt: &impl Env) -> usize {
     usize::MAX
 }
 
-// Puts argument `i` at the front of the buffer, and answers its length: 0 where it is missing or longer than the buffer.
-fn read_word(rt: &impl Env, i: usize, word: &mut [u8]) -> usize
-    ensures { result ≤ length word.new }
+// Puts argument `i` at the front of the buffer, and answers its length: nothing where it is missing or longer than the buffer.
+fn read_word(rt: &impl Env, i: usize, word: &mut [u8]) -> Option<usize>
+    ensures { IfSome result (λ n. n ≤ length word.new) }
 {
-    match rt.arg(i, word) {
-        Ok(n) => n,
-        Err(_) => 0,
-    }
+    rt.arg(i, word).ok()
 }
 
 // Says that argument `i` is not an address. The word need not be text.
@@ -137,11 +110,14 @@ fn say_other(errors: &impl Print, i: usize, word: &[u8]) -> io::Result<()> {
 }
 
 // The address that argument `i` spells.
-fn entry(rt: &impl Env, errors: &impl Print, i: usize) -> io::Result<Parsed> {
+fn entry(rt: &impl Env, errors: &impl Print, i: usize) -> io::Result<Option<u16>> {
     let mut word = [0u8; MOST_WORD];
-    let n = read_word(rt, i, &mut word);
+    let Some(n) = read_word(rt, i, &mut word) else {
+        say_other(errors, i, b"")?;
+        return Ok(None);
+    };
     let parsed = address(&word[..n]);
-    if let Parsed::Other = parsed {
+    if parsed.is_none() {
         say_other(errors, i, &word[..n])?;
     }
     Ok(parsed)
@@ -157,12 +133,11 @@ fn read_entries(
     requires { count ≤ 1024 }
     ensures { length entries.new ≡ 1024 }
 {
-    let slots = &mut entries[..];
-    for i in 0..count {
-        let Parsed::Address(a) = entry(rt, errors, i + 2)? else {
+    for (i, slot) in entries[..count].iter_mut().enumerate() {
+        let Some(a) = entry(rt, errors, i + 2)? else {
             return Ok(false);
         };
-        slots[i] = a;
+        *slot = a;
     }
     Ok(true)
 }
@@ -172,10 +147,7 @@ fn is_ended<I: Read>(input: &mut I) -> bool
     ensures { result ≡ true → Keeps (I.remaining input.old) (I.remaining input.new) × IsAtEnd (I.remaining input.new) }
 {
     let mut one = [0u8; 1];
-    match input.read(&mut one) {
-        Ok(n) => n == 0,
-        Err(_) => false,
-    }
+    matches!(input.read(&mut one), Ok(0))
 }
 
 // Reads an input to its end or until the buffer is full, and answers how long it is: nothing where it cannot be read.
@@ -201,17 +173,17 @@ fn write(
     out: &mut [u8],
 ) -> io::Result<()> {
     match job::write_job(load, entries, image, out) {
-        WriteAnswer::Written(n) => {
+        Ok(n) => {
             if output.write_all(&out[..n]).is_err() {
                 return println!(errors; "makejob: standard output cannot be written");
             }
             Ok(())
         }
-        WriteAnswer::TooLarge => {
+        Err(WriteError::TooLarge) => {
             println!(errors; "makejob: the image is longer than 49,152 bytes")
         }
         // Not met: the buffer holds the largest job.
-        WriteAnswer::Short(_) => Ok(()),
+        Err(WriteError::Short(_)) => Ok(()),
     }
 }
 
@@ -224,10 +196,10 @@ fn convert(
     bytes: &[u8],
     out: &mut [u8],
 ) -> io::Result<()> {
-    match image_in(load, bytes) {
-        Input::Image(a, from) => write(output, errors, a, entries, &bytes[from..], out),
-        Input::Cut => { println!(errors; "makejob: a prg begins with its load address, two bytes") }
-    }
+    let Some((a, from)) = image_in(load, bytes) else {
+        return println!(errors; "makejob: a prg begins with its load address, two bytes");
+    };
+    write(output, errors, a, entries, &bytes[from..], out)
 }
 
 // Reads entries and image, and writes their job.
@@ -273,12 +245,14 @@ fn main(rt: HostRuntime) -> io::Result<()> {
         return println!(errors; "makejob: more than 1,024 entries");
     }
     let mut word = [0u8; MOST_WORD];
-    let n = read_word(&rt, 1, &mut word);
+    let Some(n) = read_word(&rt, 1, &mut word) else {
+        return say_other(&errors, 1, b"");
+    };
     if &word[..n] == b"prg".as_slice() {
         return make(&rt, &errors, Load::Prg, count);
     }
     match address(&word[..n]) {
-        Parsed::Address(a) => make(&rt, &errors, Load::Told(a), count),
-        Parsed::Other => say_other(&errors, 1, &word[..n]),
+        Some(a) => make(&rt, &errors, Load::Told(a), count),
+        None => say_other(&errors, 1, &word[..n]),
     }
 }

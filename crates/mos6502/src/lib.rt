@@ -65,7 +65,7 @@ impl Mode {
     }
 }
 
-// The class of each opcode as one number: the mode's place in `Mode` x 16 + the flow's place in `Flow`.
+// The class of each opcode as one number, the form that 01 names for this table: the mode's place in `Mode` x 16 + the flow's place in `Flow`.
 const CLASSES: [u8; 256] = [
     0x05, // 00 BRK
     0x50, // 01 ORA

@@ -2,51 +2,38 @@
 
 #![tactic(auto)]
 
-ghost use Rattle.std.specs.Prelude.{◌≡◌};
-ghost use Rattle.opening.specs.Opening.{opening_of, all_inside};
+ghost use Rattle.std.specs.Prelude.{◌≡◌, IfOk};
+ghost use Rattle.opening.specs.Opening.{opening_of, bounds_of, all_inside};
 
-use image::{Bounds, Placed};
+use image::{Bounds, Image};
+use refusal::Refusal;
 
-// The bounds of the image, or the refusal: 1, 2 or 3, the lowest wins.
-#[derive(Clone, Copy)]
-pub enum Opening {
-    At(Bounds),
-    ImageEmpty,
-    NoEntries,
-    PastTop,
-}
-
-pub fn open(image: &[u8], load: u16, entries: &[u16]) -> Opening
-    ensures { result ≡ opening_of image.now load entries.now }
+// The image at its place, or the refusal: 1, 2 or 3, the lowest wins.
+pub fn open<'a>(image: &'a [u8], load: u16, entries: &[u16]) -> Result<Image<'a>, Refusal>
+    ensures bounds { bounds_of result ≡ opening_of image.now load entries.now }
+    ensures bytes { IfOk result (λ opened. opened.bytes.now ≡ image.now) }
 {
-    let count = entries.len();
-    match Bounds::new(load, image.len()) {
-        Placed::Empty => Opening::ImageEmpty,
-        Placed::At(b) => {
-            if count == 0 {
-                return Opening::NoEntries;
-            }
-            Opening::At(b)
-        }
-        Placed::PastTop => {
-            if count == 0 {
-                return Opening::NoEntries;
-            }
-            Opening::PastTop
-        }
+    if image.is_empty() {
+        return Err(Refusal::ImageEmpty);
     }
+    if entries.is_empty() {
+        return Err(Refusal::NoEntries);
+    }
+    let bounds = Bounds::new(load, image.len())?;
+    Ok(Image {
+        bytes: image,
+        bounds,
+    })
 }
 
 // Whether every entry is inside.
 pub fn all_inside(entries: &[u16], bounds: Bounds) -> bool
     ensures { result ≡ all_inside bounds.load bounds.last entries.now }
 {
-    let mut i = 0;
-    while i < entries.len() {
-        if !bounds.inside(entries[i]) {
+    for &a in entries {
+        if !bounds.inside(a) {
             return false;
         }
-        i += 1;
     }
     true
 }

@@ -1,2 +1,3 @@
 -- The laws behind the pages.
-pub mod Members
+pub mod Arrays
+pub mod Pairs

@@ -2,22 +2,30 @@
 
 #![tactic(auto)]
 
-ghost use Rattle.std.specs.Prelude.{◌≡◌, suc, ◌-◌, ◌<◌, length};
-ghost use Rattle.lists.specs.Lists.{scan};
-ghost use Rattle.address_set.specs.Map.{has};
+ghost use Rattle.std.specs.Prelude.{◌≡◌};
+ghost use Rattle.address_set.specs.Map.{has, members_in};
 ghost use Rattle.tracker.specs.Track.{state_of};
-ghost use Rattle.resolver.specs.Resolve.{Blank};
-ghost use Rattle.pages.specs.Pages.{pointer_in, any_of, is_op, compared_at, pages_from, page_limit, Page};
-ghost use Rattle.pages.specs.Pages.{over_pages, up_to, down_to, span_from, indy_store_span};
-ghost use Rattle.pages.specs.Surveys.{Marks, AllMarked, Limits, AllLimited, habit_in};
+ghost use Rattle.pages.specs.Pages.{pointer_in, any_of, is_op, compared_at, pages_from, page_limit};
+ghost use Rattle.pages.specs.Pages.{over_pages, span_from, indy_store_span};
+ghost use Rattle.pages.specs.Surveys.{AllMarked, AllLimited, Surveyed, habit_in};
 
-use address_set::Found;
-use image::{Bounds, Checked};
+use image::{Bounds, Image};
 use resolver::Seen;
-use tracker::{Known, Registers};
+use tracker::Registers;
+
+// The opcodes that step or limit a pointer's high byte: INC, DEC, LDA of a zero-page byte, CMP of an immediate, and DEX.
+const INC: u8 = 0xE6;
+
+const DEC: u8 = 0xC6;
+
+const LDA: u8 = 0xA5;
+
+const CMP: u8 = 0xC9;
+
+const DEX: u8 = 0xCA;
 
 // What one instruction stores, outside zero page and the stack.
-#[derive(Clone, Copy)]
+#[derive(Clone, Copy, Debug, PartialEq, Eq)]
 pub enum StoreSpan {
     Nothing,
     Bytes(u16, u16),
@@ -26,15 +34,15 @@ pub enum StoreSpan {
 }
 
 // What the tracker knows of a pointer, and of X.
-#[derive(Clone, Copy)]
+#[derive(Clone, Copy, Debug, PartialEq, Eq)]
 pub struct Pointer {
-    pub low: Known,
-    pub high: Known,
-    pub x: Known,
+    pub low: Option<u8>,
+    pub high: Option<u8>,
+    pub x: Option<u8>,
 }
 
 // What the instructions met do with a pointer's high byte: INC, DEC, the limit that LDA and CMP give; and whether there is a DEX.
-#[derive(Clone, Copy)]
+#[derive(Clone, Copy, Debug, PartialEq, Eq)]
 pub struct Habit {
     pub up: bool,
     pub down: bool,
@@ -42,198 +50,144 @@ pub struct Habit {
     pub dex: bool,
 }
 
+// The habits of all zero-page bytes.
+#[derive(Clone, Copy, Debug, PartialEq, Eq)]
+pub struct Survey {
+    pub ups: [bool; 256],
+    pub downs: [bool; 256],
+    pub limits: [Seen; 256],
+    pub dex: bool,
+}
+
 // What is known of the pointer `z`. One at 0xFF has no second byte.
-pub fn pointer_in(z: u8, regs: Registers, zp: &[u8; 256], marks: &[u8; 256]) -> Pointer
-    ensures { result ≡ pointer_in (state_of regs zp.now marks.now) z }
+pub fn pointer_in(z: u8, regs: Registers, zp: &[Option<u8>; 256]) -> Pointer
+    ensures { result ≡ pointer_in (state_of regs zp.now) z }
 {
-    let low = tracker::value_in(z, regs, zp, marks);
-    let x = regs.x;
-    if z == 0xFF {
-        return Pointer {
-            low,
-            high: Known::Unknown,
-            x,
-        };
-    }
+    let high = match z.checked_add(1) {
+        Some(next) => zp[next as usize],
+        None => None,
+    };
     Pointer {
-        low,
-        high: tracker::value_in(z + 1, regs, zp, marks),
-        x,
+        low: zp[z as usize],
+        high,
+        x: regs.x,
     }
 }
 
 // ── what the instructions met do ──
 
+impl Survey {
+    // What the members of the map do with each zero-page byte.
+    pub fn of(image: Image<'_>, map: &[u8; 8192]) -> Survey
+        ensures { Surveyed image.entry.bytes.now image.entry.bounds.load (members_in image.entry.bounds.load image.entry.bounds.last map.now) result }
+    {
+        Survey {
+            ups: mark_operands(image.bytes, image.bounds, map, INC),
+            downs: mark_operands(image.bytes, image.bounds, map, DEC),
+            limits: note_limits(image.bytes, image.bounds, map),
+            dex: is_met(image.bytes, image.bounds, map, DEX),
+        }
+    }
+
+    // What they do with the byte `z`.
+    pub fn habit(&self, z: u8) -> Habit
+        ensures { result ≡ habit_in self.now z }
+    {
+        let i = z as usize;
+        Habit {
+            up: self.ups[i],
+            down: self.downs[i],
+            limit: self.limits[i],
+            dex: self.dex,
+        }
+    }
+}
+
 // Whether there is this opcode at an address.
 fn is_op(image: &[u8], load: u16, op: u8, a: u16) -> bool
     ensures { result ≡ is_op image.now load op a }
 {
-    match resolver::known_at(image, load, a) {
-        Known::Value(v) => v == op,
-        Known::Unknown => false,
-    }
-}
-
-// Marks the operand of an instruction that has the opcode.
-fn mark(here: bool, argument: Known, marks: &mut [u8; 256])
-    ensures { Marks here argument marks.old marks.new }
-{
-    // As a slice, it tells the proof its length.
-    let m = &mut marks[..];
-    if here {
-        if let Known::Value(z) = argument {
-            m[z as usize] = 1;
-        }
-    }
+    image::wrapped_byte(image, load, a) == Some(op)
 }
 
 // Marks every zero-page byte that a member of the map with the opcode has for its operand.
-pub fn mark_operands(image: &[u8], bounds: Bounds, map: &[u8; 8192], op: u8, marks: &mut [u8; 256])
-    requires { Blank marks.old }
-    ensures { AllMarked image.now bounds.load op (scan (has map.now) bounds.load (suc bounds.last - bounds.load)) marks.new }
+pub fn mark_operands(image: &[u8], bounds: Bounds, map: &[u8; 8192], op: u8) -> [bool; 256]
+    ensures { AllMarked image.now bounds.load op (members_in bounds.load bounds.last map.now) result }
 {
-    let load = bounds.load;
-    let last = bounds.last;
-    let mut from = load as u32;
-    loop {
-        let Found::At(a) = address_set::next_in(map, from, last) else {
-            return;
-        };
-        let here = is_op(image, load, op, a);
-        mark(here, resolver::argument_at(image, load, a), marks);
-        from = a as u32 + 1;
+    let mut marks = [false; 256];
+    for a in address_set::members_in(map, bounds.load, bounds.last) {
+        if is_op(image, bounds.load, op, a) {
+            if let Some(z) = resolver::argument_at(image, bounds.load, a) {
+                marks[z as usize] = true;
+            }
+        }
     }
+    marks
 }
 
 // Whether a member of the map has the opcode.
 pub fn is_met(image: &[u8], bounds: Bounds, map: &[u8; 8192], op: u8) -> bool
-    ensures { result ≡ any_of (is_op image.now bounds.load op) (scan (has map.now) bounds.load (suc bounds.last - bounds.load)) }
+    ensures { result ≡ any_of (is_op image.now bounds.load op) (members_in bounds.load bounds.last map.now) }
 {
-    let load = bounds.load;
-    let last = bounds.last;
-    let mut from = load as u32;
-    loop {
-        let Found::At(a) = address_set::next_in(map, from, last) else {
-            return false;
-        };
-        if is_op(image, load, op, a) {
+    for a in address_set::members_in(map, bounds.load, bounds.last) {
+        if is_op(image, bounds.load, op, a) {
             return true;
         }
-        from = a as u32 + 1;
     }
+    false
 }
 
 // The operand of a CMP directly after the two bytes at `a`, if the CMP is a member of the map.
-fn compared_at(image: &[u8], load: u16, map: &[u8; 8192], a: u16) -> Known
+fn compared_at(image: &[u8], load: u16, map: &[u8; 8192], a: u16) -> Option<u8>
     ensures { result ≡ compared_at image.now load (has map.now) a }
 {
-    let next = std::num::wrapping_add_u16(a, 2);
-    if address_set::contains(map, next) {
-        if is_op(image, load, 0xC9, next) {
-            return resolver::argument_at(image, load, next);
-        }
+    let next = a.wrapping_add(2);
+    if address_set::contains(map, next) && is_op(image, load, CMP, next) {
+        return resolver::argument_at(image, load, next);
     }
-    Known::Unknown
-}
-
-// Takes what an LDA is compared with into the arrays, for the byte that it loads.
-fn limit(
-    lda: bool,
-    argument: Known,
-    compared: Known,
-    states: &mut [u8; 256],
-    values: &mut [u8; 256],
-)
-    ensures { Limits lda argument compared states.old values.old states.new values.new }
-{
-    if lda {
-        if let Known::Value(z) = argument {
-            if let Known::Value(v) = compared {
-                resolver::note(z, Known::Value(v), states, values);
-            }
-        }
-    }
+    None
 }
 
 // The limits that the pairs LDA, CMP among the map's members give, for all zero-page bytes.
-pub fn note_limits(
-    image: &[u8],
-    bounds: Bounds,
-    map: &[u8; 8192],
-    states: &mut [u8; 256],
-    values: &mut [u8; 256],
-)
-    requires { Blank states.old × (length values.old ≡ 256) }
-    ensures { AllLimited image.now bounds.load (has map.now) (scan (has map.now) bounds.load (suc bounds.last - bounds.load)) states.new values.new }
+pub fn note_limits(image: &[u8], bounds: Bounds, map: &[u8; 8192]) -> [Seen; 256]
+    ensures { AllLimited image.now bounds.load (has map.now) (members_in bounds.load bounds.last map.now) result }
 {
-    let load = bounds.load;
-    let last = bounds.last;
-    let mut from = load as u32;
-    loop {
-        let Found::At(a) = address_set::next_in(map, from, last) else {
-            return;
-        };
-        let lda = is_op(image, load, 0xA5, a);
-        let argument = resolver::argument_at(image, load, a);
-        limit(
-            lda,
-            argument,
-            compared_at(image, load, map, a),
-            states,
-            values,
-        );
-        from = a as u32 + 1;
+    let mut limits = [Seen::Never; 256];
+    for a in address_set::members_in(map, bounds.load, bounds.last) {
+        if is_op(image, bounds.load, LDA, a) {
+            if let Some(z) = resolver::argument_at(image, bounds.load, a) {
+                if let Some(v) = compared_at(image, bounds.load, map, a) {
+                    resolver::note(z, Some(v), &mut limits);
+                }
+            }
+        }
     }
-}
-
-// What the arrays hold of the byte `z`.
-pub fn habit_in(
-    z: u8,
-    ups: &[u8; 256],
-    downs: &[u8; 256],
-    states: &[u8; 256],
-    values: &[u8; 256],
-    dex: bool,
-) -> Habit
-    ensures { result ≡ habit_in ups.now downs.now states.now values.now dex z }
-{
-    let i = z as usize;
-    Habit {
-        up: ups[i] == 1,
-        down: downs[i] == 1,
-        limit: resolver::seen_of(states[i], values[i]),
-        dex,
-    }
+    limits
 }
 
 // ── the pages ──
 
 // `n` pages up or down from a page.
-fn pages_from(up: bool, page: u8, n: u8) -> Checked
+fn pages_from(up: bool, page: u8, n: u8) -> Option<u8>
     ensures { result ≡ pages_from up page n }
 {
     if up {
-        image::checked_add(page as u16, n as u16, 0xFF)
+        page.checked_add(n)
     } else {
-        image::checked_sub(page as u16, n as u16)
+        page.checked_sub(n)
     }
 }
 
 // The last page that is written, from the page `hi` up or down.
-fn page_limit(limit: Seen, x: Known, dex: bool, hi: u8, up: bool) -> Checked
-    ensures { (result ≡ page_limit limit x dex hi up) × Page result }
+fn page_limit(limit: Seen, x: Option<u8>, dex: bool, hi: u8, up: bool) -> Option<u8>
+    ensures { result ≡ page_limit limit x dex hi up }
 {
     match limit {
         Seen::Holds(v) => pages_from(!up, v, 1),
-        Seen::Spoiled => Checked::Fails,
+        Seen::Spoiled => None,
         Seen::Never => match x {
-            Known::Unknown => Checked::Fails,
-            Known::Value(n) => {
-                if 0 < n && dex {
-                    return pages_from(up, hi, n - 1);
-                }
-                Checked::Fails
-            }
+            Some(n) if 0 < n && dex => pages_from(up, hi, n - 1),
+            _ => None,
         },
     }
 }
@@ -242,50 +196,30 @@ fn page_limit(limit: Seen, x: Known, dex: bool, hi: u8, up: bool) -> Checked
 fn over_pages(lo: u8, first: u8, last: u8) -> StoreSpan
     ensures { result ≡ over_pages lo first last }
 {
-    if first <= last {
-        let lowest = 256 * (first as u16) + lo as u16;
-        return match image::checked_add(256 * (last as u16) + lo as u16, 0xFF, 0xFFFF) {
-            Checked::Fits(highest) => StoreSpan::Bytes(lowest, highest),
-            Checked::Fails => StoreSpan::Anywhere,
-        };
+    if last < first {
+        return StoreSpan::Anywhere;
     }
-    StoreSpan::Anywhere
-}
-
-fn up_to(lo: u8, hi: u8, last: Checked) -> StoreSpan
-    requires { Page last }
-    ensures { result ≡ up_to lo hi last }
-{
-    match last {
-        Checked::Fits(page) => over_pages(lo, hi, page as u8),
-        Checked::Fails => StoreSpan::Anywhere,
-    }
-}
-
-fn down_to(lo: u8, hi: u8, first: Checked) -> StoreSpan
-    requires { Page first }
-    ensures { result ≡ down_to lo hi first }
-{
-    match first {
-        Checked::Fits(page) => over_pages(lo, page as u8, hi),
-        Checked::Fails => StoreSpan::Anywhere,
+    let lowest = 256 * u16::from(first) + u16::from(lo);
+    match (256 * u16::from(last) + u16::from(lo)).checked_add(0xFF) {
+        Some(highest) => StoreSpan::Bytes(lowest, highest),
+        None => StoreSpan::Anywhere,
     }
 }
 
 // One page where the high byte stays; up or down to the limit where it is stepped; not both.
-fn span_from(lo: u8, hi: u8, x: Known, h: Habit) -> StoreSpan
+fn span_from(lo: u8, hi: u8, x: Option<u8>, h: Habit) -> StoreSpan
     ensures { result ≡ span_from lo hi x h }
 {
-    let limit = h.limit;
-    let dex = h.dex;
+    if h.up && h.down {
+        return StoreSpan::Anywhere;
+    }
     if h.up {
-        if h.down {
-            return StoreSpan::Anywhere;
-        }
-        return up_to(lo, hi, page_limit(limit, x, dex, hi, true));
+        let last = page_limit(h.limit, x, h.dex, hi, true);
+        return last.map_or(StoreSpan::Anywhere, |page| over_pages(lo, hi, page));
     }
     if h.down {
-        return down_to(lo, hi, page_limit(limit, x, dex, hi, false));
+        let first = page_limit(h.limit, x, h.dex, hi, false);
+        return first.map_or(StoreSpan::Anywhere, |page| over_pages(lo, page, hi));
     }
     over_pages(lo, hi, hi)
 }
@@ -294,14 +228,8 @@ fn span_from(lo: u8, hi: u8, x: Known, h: Habit) -> StoreSpan
 pub fn indy_store_span(p: Pointer, h: Habit) -> StoreSpan
     ensures { result ≡ indy_store_span p h }
 {
-    let low = p.low;
-    let high = p.high;
-    let x = p.x;
-    let Known::Value(lo) = low else {
+    let (Some(lo), Some(hi)) = (p.low, p.high) else {
         return StoreSpan::Anywhere;
     };
-    let Known::Value(hi) = high else {
-        return StoreSpan::Anywhere;
-    };
-    span_from(lo, hi, x, h)
+    span_from(lo, hi, p.x, h)
 }

@@ -6,14 +6,15 @@ use Prim.Native.Nat.{ℕ, suc, ◌+◌, ◌-◌, ◌≤◌}
 use native.Mathlib.Omega.{arith}
 use lib.ListN.{length, get_or, drop, length-drop}
 use lib.Seq.{length-take-le, get_or-take, get_or-drop}
+use Rattle.std.proofs.Common.{Ok}
+use Rattle.refusal.specs.Numbers.{number_of}
 use Rattle.mos6502.specs.declared.Decoded.{Decoded}
 use Rattle.mos6502.specs.Class.{manual_class}
 use Rattle.image.specs.Image.{last, byte_at}
 use Rattle.site.specs.declared.Reading.{Reading}
 use Rattle.site.specs.declared.Reading.TheVariants.{Plain, Guarded}
 use Rattle.span.specs.declared.Span.{Span}
-use Rattle.span.specs.declared.SpanAnswer.TheVariants.{Given}
-use Rattle.span.specs.Answers.{number_of, values_of}
+use Rattle.span.specs.Answers.{values_of}
 use Rattle.span.specs.Given.{Gives, Answers}
 use Rattle.span.proofs.Local.{Holds, gives_there, range_inside}
 use Rattle.span.proofs.Unique.{answers_unique}
@@ -26,7 +27,7 @@ module _ (class : ℕ → Decoded) (reading : Reading) where
   gets image load entries s g =
       record {
         given = g;
-        only = λ r a. let e = answers_unique class image load entries reading r (Given s) a g in (ap number_of e, ap values_of e);
+        only = λ r a. let e = answers_unique class image load entries reading r (Ok s) a g in (ap number_of e, ap values_of e);
         undisturbed = undisturbed class image load entries (g.list, g.possible);
       }
 
@@ -74,7 +75,7 @@ module _ (class : ℕ → Decoded) (reading : Reading) where
         }
 
   -- for the plain and for the guarded reading
-  pub demand_3 : (image : List ℕ) (load : ℕ) (entries : List ℕ) (s : Span) → Answers class image load entries reading (Given s)
+  pub demand_3 : (image : List ℕ) (load : ℕ) (entries : List ℕ) (s : Span) → Answers class image load entries reading (Ok s)
       → Demand3 class reading image load entries s
   demand_3 image load entries s g =
       record {
@@ -85,10 +86,10 @@ module _ (class : ℕ → Decoded) (reading : Reading) where
       }
 
 -- ── of the two calls ──
-pub demand_3_plain : (image : List ℕ) (load : ℕ) (entries : List ℕ) (s : Span) → Answers manual_class image load entries Plain (Given s)
+pub demand_3_plain : (image : List ℕ) (load : ℕ) (entries : List ℕ) (s : Span) → Answers manual_class image load entries Plain (Ok s)
     → Demand3 manual_class Plain image load entries s
 demand_3_plain = demand_3 manual_class Plain
 
-pub demand_3_guarded : (image : List ℕ) (load : ℕ) (entries : List ℕ) (s : Span) → Answers manual_class image load entries Guarded (Given s)
+pub demand_3_guarded : (image : List ℕ) (load : ℕ) (entries : List ℕ) (s : Span) → Answers manual_class image load entries Guarded (Ok s)
     → Demand3 manual_class Guarded image load entries s
 demand_3_guarded = demand_3 manual_class Guarded

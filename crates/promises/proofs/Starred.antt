@@ -5,6 +5,8 @@ use mathlib.Core.List.{List, [], ◌∷◌, ◌++◌, map}
 use Prim.Native.Nat.{ℕ}
 use native.Mathlib.Omega.{arith}
 use lib.ListN.{length, drop, length-map}
+use Rattle.std.proofs.Common.{Result, Ok}
+use Rattle.refusal.specs.declared.Refusal.{Refusal}
 use Rattle.image.specs.declared.Bounds.{Bounds}
 use Rattle.lists.specs.Lists.{scan}
 use Rattle.lists.proofs.Tests.{passed}
@@ -14,7 +16,6 @@ use Rattle.writes.specs.Writes.{manual_writes}
 use Rattle.image.specs.Image.{last, inside, byte_at, branch_target}
 use Rattle.records.specs.declared.Fields.{Fields}
 use Rattle.records.specs.Packed.{packed}
-use Rattle.opening.specs.declared.Opening.TheVariants.{At}
 use Rattle.opening.specs.Opening.{Ready, opening_of, all_inside}
 use Rattle.opening.proofs.First.{Opens, ready, opened_as, all_inside_mem}
 use Rattle.tracker.specs.Track.{track, nothing, tracked, value_in}
@@ -29,12 +30,10 @@ use Rattle.extent.specs.Extent.{over_entries, over_sites}
 use Rattle.span.specs.Computed as span
 use Rattle.span.proofs.Computed as span_proofs
 use Rattle.diagnosis.specs.declared.Summary.{Summary}
-use Rattle.diagnosis.specs.declared.DiagAnswer.TheVariants.{Answered}
 use Rattle.diagnosis.specs.Answers as diagnosis
 use Rattle.diagnosis.specs.Computed.{turns_of, weight_after, records_from, summary_from}
 use Rattle.diagnosis.proofs.Computed.{AllEnd, computed}
 use Rattle.pages.specs.Pages.{any_of, limit_over}
-use Rattle.stores.specs.declared.StoresAnswer.{StoresAnswer}
 use Rattle.stores.specs.Stores.{records_over}
 use Rattle.stores.specs.Answers as store_answers
 use Rattle.stores.specs.Computed as stores
@@ -52,7 +51,7 @@ Diagnosed image load entries low high count records (halts (full pc) met) = ⊥
 Diagnosed image load entries low high count records (turns s) = ⊥
 
 -- what is computed of store spans: the walk has ended, and the answer and the records are these
-abbrev Stored : (image : List ℕ) (load : ℕ) (entries : List ℕ) → StoresAnswer → (records : List ℕ) → Turn → Type 0
+abbrev Stored : (image : List ℕ) (load : ℕ) (entries : List ℕ) → Result ℕ Refusal → (records : List ℕ) → Turn → Type 0
 Stored image load entries answer records (halts e met) =
     (stores.records_from manual_class manual_writes image load entries e met ≡ records) × (stores.answer_of manual_class manual_writes image load entries e met ≡ answer)
 Stored image load entries answer records (turns s) = ⊥
@@ -60,7 +59,7 @@ Stored image load entries answer records (turns s) = ⊥
 -- what is computed before any walk: the first tests are passed, and all entries are inside
 abbrev Opened : (image : List ℕ) (load : ℕ) (entries : List ℕ) → Type 0
 Opened image load entries =
-    (opening_of image load entries ≡ At (record { load = load; last = last image load })) × (all_inside load (last image load) entries ≡ true)
+    (opening_of image load entries ≡ Ok (record { load = load; last = last image load })) × (all_inside load (last image load) entries ≡ true)
 
 -- what is computed of a case
 abbrev Computes : Case → Type 0
@@ -83,22 +82,22 @@ finished≢full pc q = let z : ◌≡◌ {A = ℕ} 0 1 = cc in omega arith
 -- the records and the summary by other names
 written : (image : List ℕ) (load : ℕ) (entries slots : List ℕ) {found records : List ℕ} {n : ℕ} {s summary : Summary}
     → found ≡ records → length records ≡ n → s ≡ summary
-    → diagnosis.Answers manual_class image load entries slots (found ++ drop (length found) slots) (Answered s)
-    → diagnosis.Answers manual_class image load entries slots (records ++ drop n slots) (Answered summary)
+    → diagnosis.Answers manual_class image load entries slots (found ++ drop (length found) slots) (Ok s)
+    → diagnosis.Answers manual_class image load entries slots (records ++ drop n slots) (Ok summary)
 written image load entries slots {records} {n} f l e a =
-    subst (λ (x : Summary). diagnosis.Answers manual_class image load entries slots (records ++ drop n slots) (Answered x)) e (rw (f, l) at a)
+    subst (λ (x : Summary). diagnosis.Answers manual_class image load entries slots (records ++ drop n slots) (Ok x)) e (rw (f, l) at a)
 
 -- the records and the answer by other names
-put_down : (image : List ℕ) (load : ℕ) (entries slots : List ℕ) {found records : List ℕ} {a answer : StoresAnswer} → found ≡ records → a ≡ answer
+put_down : (image : List ℕ) (load : ℕ) (entries slots : List ℕ) {found records : List ℕ} {a answer : Result ℕ Refusal} → found ≡ records → a ≡ answer
     → store_answers.Answers manual_class manual_writes image load entries slots (found ++ drop (length found) slots) a
     → store_answers.Answers manual_class manual_writes image load entries slots (records ++ drop (length records) slots) answer
 put_down image load entries slots {records = records} f e a =
-    subst (λ (x : StoresAnswer). store_answers.Answers manual_class manual_writes image load entries slots (records ++ drop (length records) slots) x) e (rw f at a)
+    subst (λ (x : Result ℕ Refusal). store_answers.Answers manual_class manual_writes image load entries slots (records ++ drop (length records) slots) x) e (rw f at a)
 
 is_ready : (image : List ℕ) (load : ℕ) (entries : List ℕ) → Opened image load entries → Ready image load entries
 is_ready image load entries o = by _ (opened_as image load entries refl o.0)
   where
-    by : (b : Bounds) → Opens image load entries (At b) → Ready image load entries
+    by : (b : Bounds) → Opens image load entries (Ok b) → Ready image load entries
     by b (ready r) = r
 
 holds : (c : Case) → Computes c → Holds c

@@ -3,17 +3,16 @@
 #![tactic(auto)]
 
 use reading::read_full;
-use report::ReportAnswer;
 use std::io;
 
 fn main(rt: HostRuntime) -> io::Result<()> {
     // One byte more than the longest job has, so that a longer input is seen to be too long.
     let mut bytes = [0u8; 51217];
     let n = read_full(&mut rt.reader(), &mut bytes)?;
-    // As long as the longest report.
-    let mut out = [0u8; 262144];
+    let mut out = [0u8; report::MOST_TEXT];
     match report::report(&bytes[..n], &mut out) {
-        ReportAnswer::Written(m) => rt.write_all(&out[..m]),
-        ReportAnswer::Short(_) => Ok(()),
+        Ok(m) => rt.write_all(&out[..m]),
+        // Not met: no report is longer.
+        Err(_) => Ok(()),
     }
 }

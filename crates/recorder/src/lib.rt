@@ -2,35 +2,33 @@
 
 #![tactic(auto)]
 
-ghost use Rattle.std.specs.Prelude.{◌≡◌, suc, ◌-◌, ◌+◌, ◌≤◌, length};
-ghost use Rattle.lists.specs.Lists.{scan};
+ghost use Rattle.std.specs.Prelude.{◌≡◌, ◌+◌, ◌≤◌, length};
 ghost use Rattle.mos6502.specs.Class.{manual_class};
-ghost use Rattle.image.specs.Image.{Lies};
-ghost use Rattle.address_set.specs.Map.{has, Within};
+ghost use Rattle.address_set.specs.Map.{Within, members_in};
 ghost use Rattle.site.specs.Site.{list_of};
 ghost use Rattle.walk.specs.Walked.{as_end};
 ghost use Rattle.resolver.specs.Resolve.{Tells};
 ghost use Rattle.records.specs.Packed.{packed};
-ghost use Rattle.recorder.specs.Recorded.{undecoded_of, causes_at, pairs_over};
-ghost use Rattle.recorder.specs.Records.{is_y, pair_known, fields_with, Put, Written};
+ghost use Rattle.recorder.specs.Recorded.{undecoded_of, causes_at};
+ghost use Rattle.recorder.specs.Records.{is_y, KnowsBoth, facts_at, fields_with, pairs_of, Put, Written};
 
-use address_set::Found;
 use cause::RefusalCause;
-use image::{Address, Bounds};
+use image::{Bounds, Image};
 use records::Fields;
+use resolver::Seen;
 use site::Causes;
 use tracker::Place;
 use walk::End;
 
 // An address and a cause recorded there.
-#[derive(Clone, Copy)]
+#[derive(Clone, Copy, Debug, PartialEq, Eq)]
 pub struct Pair {
     pub address: u16,
     pub cause: RefusalCause,
 }
 
 // What the records of one address share.
-#[derive(Clone, Copy)]
+#[derive(Clone, Copy, Debug, PartialEq, Eq)]
 pub struct Facts {
     pub opcode: u8,
     pub pointer: u8,
@@ -39,30 +37,26 @@ pub struct Facts {
 }
 
 // What is recorded at an address that was met or is an outside entry.
-pub fn causes_at(image: &[u8], bounds: Bounds, undecoded: Address, a: u16) -> Causes
-    requires { Lies image.now bounds.load bounds.last }
-    ensures { list_of result ≡ causes_at manual_class image.now bounds.load bounds.last undecoded a }
+#[tactic(auto, using(image::proofs::Inside::inside_bounds))]
+pub fn causes_at(image: Image<'_>, undecoded: Option<u16>, a: u16) -> Causes
+    ensures { list_of result ≡ causes_at manual_class image.entry.bytes.now image.entry.bounds.load image.entry.bounds.last undecoded a }
 {
-    if bounds.inside(a) {
-        if extent::is_skipped(undecoded, a) {
-            return Causes::One(RefusalCause::Budget);
-        }
-        let s = site::site_at(image, bounds, a);
-        let causes = s.causes;
-        return causes;
+    if !image.bounds.inside(a) {
+        return Causes::One(RefusalCause::EntryOutside);
     }
-    Causes::One(RefusalCause::EntryOutside)
+    if extent::is_skipped(undecoded, a) {
+        return Causes::One(RefusalCause::Budget);
+    }
+    site::site_at(image, a).causes
 }
 
 // The address that was met one past the limit, if the walk ended there.
-pub fn undecoded_of(end: End) -> Address
+pub fn undecoded_of(end: End) -> Option<u16>
     ensures { result ≡ undecoded_of (as_end end) }
 {
     match end {
-        End::Finished => Address::Nowhere,
-        End::Refused(_) => Address::Nowhere,
-        End::Spent(pc) => Address::At(pc),
-        End::Full(_) => Address::Nowhere,
+        End::Spent(pc) => Some(pc),
+        End::Finished | End::Refused(_) | End::Full(_) => None,
     }
 }
 
@@ -79,69 +73,68 @@ fn count_of(causes: Causes) -> usize
 
 // How many records the members of the map have. All of them lie in `range`, and no more is searched, so that a small image costs little.
 pub fn count_pairs(
-    image: &[u8],
-    bounds: Bounds,
+    image: Image<'_>,
     map: &[u8; 8192],
     range: Bounds,
-    undecoded: Address,
+    undecoded: Option<u16>,
 ) -> usize
-    requires { Lies image.now bounds.load bounds.last × Within range.load range.last map.now }
-    ensures { result ≡ length (pairs_over manual_class image.now bounds.load bounds.last undecoded (scan (has map.now) 0 65536)) }
+    requires { Within range.load range.last map.now }
+    ensures { result ≡ length (pairs_of image.entry.bytes.now image.entry.bounds.load image.entry.bounds.last undecoded map.now) }
 {
     let mut n: usize = 0;
-    let mut from = range.load as u32;
-    loop {
-        let Found::At(a) = address_set::next_in(map, from, range.last) else {
-            return n;
-        };
-        n += count_of(causes_at(image, bounds, undecoded, a));
-        from = a as u32 + 1;
+    for a in address_set::members_in(map, range.load, range.last) {
+        n += count_of(causes_at(image, undecoded, a));
     }
+    n
 }
 
+// The flags are asked for indirect-y alone.
 fn is_y(cause: RefusalCause) -> bool
     ensures { result ≡ is_y cause }
 {
-    match cause {
-        RefusalCause::IndirectIndexedY => true,
-        RefusalCause::IndirectIndexedX => false,
-        RefusalCause::IllegalOpcode => false,
-        RefusalCause::Brk => false,
-        RefusalCause::JmpIndirect => false,
-        RefusalCause::OperandOffEnd => false,
-        RefusalCause::RanOffEnd => false,
-        RefusalCause::Budget => false,
-        RefusalCause::EntryOutside => false,
-    }
+    matches!(cause, RefusalCause::IndirectIndexedY)
 }
 
-// Whether a pointer's two bytes are marked. A pointer at 0xFF has no second byte.
-fn pair_known(marks: &[u8; 256], z: u8) -> bool
-    ensures { result ≡ pair_known marks.now z }
+// Whether a pointer's two bytes are known. A pointer at 0xFF has no second byte.
+fn pair_known<F: Fn(u8) -> bool>(known: F, z: u8) -> bool
+    requires { F.IsAlwaysCallable known }
+    ensures { KnowsBoth (F.post known) z result }
 {
     if z == 0xFF {
         return false;
     }
-    let i = z as usize;
-    marks[i] == 1 && marks[i + 1] == 1
+    known(z) && known(z + 1)
+}
+
+// What the records of an address inside share, from the tracker before it and what the instructions met write.
+fn facts_at(image: Image<'_>, a: u16, zp: &[Option<u8>; 256], seen: &[Seen; 256]) -> Facts
+    requires { (image.bounds.load ≤ a) × (a ≤ image.bounds.last) }
+    ensures { result ≡ facts_at image.entry.bytes.now image.entry.bounds.load image.entry.bounds.last a zp.now seen.now }
+{
+    let s = site::site_at(image, a);
+    let pointer = (s.operand % 256) as u8;
+    Facts {
+        opcode: s.opcode,
+        pointer,
+        linear: pair_known(|z| zp[z as usize].is_some(), pointer),
+        walk: pair_known(|z| seen[z as usize].is_held(), pointer),
+    }
 }
 
 // The record of a pair, with weight 0.
 fn record_of(a: u16, cause: RefusalCause, facts: Facts) -> u64
     ensures { result ≡ packed (fields_with facts (record { address = a; cause = cause })) }
 {
-    let present = walk::is_pointer(cause);
     let y = is_y(cause);
-    let mut pointer: u8 = 0;
-    if present {
-        pointer = facts.pointer;
+    let mut pointer = None;
+    if walk::is_pointer(cause) {
+        pointer = Some(facts.pointer);
     }
     records::pack(Fields {
         address: a,
         cause,
         opcode: facts.opcode,
         pointer,
-        present,
         linear: y && facts.linear,
         walk: y && facts.walk,
         weight: 0,
@@ -169,46 +162,34 @@ fn put(slots: &mut [u64], n: usize, a: u16, causes: Causes, facts: Facts) -> usi
 
 // Writes the records of the map's members, ascending, each with weight 0. One pass of the tracker serves all sites. The members lie in `range`, as above.
 pub fn write_records(
-    image: &[u8],
-    bounds: Bounds,
+    image: Image<'_>,
     map: &[u8; 8192],
     range: Bounds,
-    undecoded: Address,
-    states: &[u8; 256],
+    undecoded: Option<u16>,
+    seen: &[Seen; 256],
     slots: &mut [u64],
 )
-    requires { Lies image.now bounds.load bounds.last × Within range.load range.last map.now × Tells image.now bounds.load (scan (has map.now) bounds.load (suc bounds.last - bounds.load)) states.now × (length (pairs_over manual_class image.now bounds.load bounds.last undecoded (scan (has map.now) 0 65536)) ≤ length slots.old) }
-    ensures { Written image.now bounds.load bounds.last undecoded map.now slots.old slots.new }
+    requires within { Within range.load range.last map.now }
+    requires told { Tells image.bytes.now image.bounds.load (members_in image.bounds.load image.bounds.last map.now) seen.now }
+    requires room { length (pairs_of image.bytes.now image.bounds.load image.bounds.last undecoded map.now) ≤ length slots.old }
+    ensures { Written image.entry.bytes.now image.entry.bounds.load image.entry.bounds.last undecoded map.now slots.old slots.new }
 {
-    let load = bounds.load;
-    let mut zp = [0u8; 256];
-    let mut marks = [0u8; 256];
+    let mut zp = [None; 256];
     let mut place = Place::start();
     let mut n: usize = 0;
-    let mut from = range.load as u32;
-    loop {
-        let Found::At(a) = address_set::next_in(map, from, range.last) else {
-            return;
-        };
-        let causes = causes_at(image, bounds, undecoded, a);
+    for a in address_set::members_in(map, range.load, range.last) {
+        let causes = causes_at(image, undecoded, a);
         let mut facts = Facts {
             opcode: 0,
             pointer: 0,
             linear: false,
             walk: false,
         };
-        if bounds.inside(a) {
-            place = tracker::advance(image, (a - load) as usize, place, &mut zp, &mut marks);
-            let s = site::site_at(image, bounds, a);
-            let z = (s.operand % 256) as u8;
-            facts = Facts {
-                opcode: s.opcode,
-                pointer: z,
-                linear: pair_known(&marks, z),
-                walk: pair_known(states, z),
-            };
+        if image.bounds.inside(a) {
+            let code = image.bytes;
+            place = tracker::advance(code, (a - image.bounds.load) as usize, place, &mut zp);
+            facts = facts_at(image, a, &zp, seen);
         }
         n = put(slots, n, a, causes, facts);
-        from = a as u32 + 1;
     }
 }

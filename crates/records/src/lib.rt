@@ -2,37 +2,31 @@
 
 #![tactic(auto)]
 
-ghost use Rattle.std.specs.Prelude.{◌≡◌, ◌≤◌};
-ghost use Rattle.records.specs.Packed.{flag, packed, address_of, cause_of, opcode_of, pointer_of, present_of, linear_of, walk_of, weight_of};
+ghost use Rattle.std.specs.Prelude.{◌≡◌};
+ghost use Rattle.records.specs.Packed.{packed, address_of, cause_of, opcode_of, pointer_byte_of, pointer_of, linear_of, walk_of, weight_of};
 
 use cause::RefusalCause;
 
-#[derive(Clone, Copy)]
+#[derive(Clone, Copy, Debug, PartialEq, Eq)]
 pub struct Fields {
     pub address: u16,
     pub cause: RefusalCause,
     pub opcode: u8,
-    // The zero-page pointer, for the two indirect causes only; 0 where it is not present.
-    pub pointer: u8,
-    pub present: bool,
+    // The zero-page pointer, for the two indirect causes only.
+    pub pointer: Option<u8>,
     pub linear: bool,
     pub walk: bool,
     pub weight: u16,
 }
 
-fn flag(b: bool) -> u64
-    ensures { (result ≡ flag b) × (result ≤ 1) }
-{
-    if b { 1 } else { 0 }
-}
-
+#[tactic(auto, unfolding(crate::specs::Packed::packed))]
 pub fn pack(f: Fields) -> u64
     ensures { result ≡ packed f }
 {
-    let cause = f.cause;
-    let head = f.address as u64 * 0x1_0000_0000_0000 + cause.number() as u64 * 0x100_0000_0000;
-    let middle = f.opcode as u64 * 0x1_0000_0000 + f.pointer as u64 * 0x100_0000;
-    let flags = flag(f.present) * 0x4_0000 + flag(f.linear) * 0x2_0000 + flag(f.walk) * 0x1_0000;
+    let head = f.address as u64 * 0x1_0000_0000_0000 + f.cause.number() as u64 * 0x100_0000_0000;
+    let middle = f.opcode as u64 * 0x1_0000_0000 + f.pointer.unwrap_or(0) as u64 * 0x100_0000;
+    let present = u64::from(f.pointer.is_some()) * 0x4_0000;
+    let flags = present + u64::from(f.linear) * 0x2_0000 + u64::from(f.walk) * 0x1_0000;
     head + middle + flags + f.weight as u64
 }
 
@@ -56,31 +50,36 @@ pub fn opcode_of(r: u64) -> u8
     (r / 0x1_0000_0000 % 256) as u8
 }
 
-pub fn pointer_of(r: u64) -> u8
-    ensures { result ≡ pointer_of r }
+// The byte at the pointer's place, present or not.
+pub fn pointer_byte_of(r: u64) -> u8
+    ensures { result ≡ pointer_byte_of r }
 {
     (r / 0x100_0000 % 256) as u8
 }
 
-// 1 where the pointer is present, 0 elsewhere.
-pub fn present_of(r: u64) -> u8
-    ensures { result ≡ present_of r }
+// The pointer, where one is present.
+pub fn pointer_of(r: u64) -> Option<u8>
+    ensures { result ≡ pointer_of r }
 {
-    (r / 0x4_0000 % 2) as u8
+    if r / 0x4_0000 % 2 == 1 {
+        Some(pointer_byte_of(r))
+    } else {
+        None
+    }
 }
 
-// 1 where the tracker before the site knows the pointer, 0 elsewhere.
-pub fn linear_of(r: u64) -> u8
+// Whether the tracker before the site knows the pointer's bytes.
+pub fn linear_of(r: u64) -> bool
     ensures { result ≡ linear_of r }
 {
-    (r / 0x2_0000 % 2) as u8
+    r / 0x2_0000 % 2 == 1
 }
 
-// 1 where the instructions met know the pointer, 0 elsewhere.
-pub fn walk_of(r: u64) -> u8
+// Whether the instructions met know the pointer's bytes.
+pub fn walk_of(r: u64) -> bool
     ensures { result ≡ walk_of r }
 {
-    (r / 0x1_0000 % 2) as u8
+    r / 0x1_0000 % 2 == 1
 }
 
 pub fn weight_of(r: u64) -> u16

@@ -1,28 +1,19 @@
 -- A packed record, unpacked, has its fields again, one for one: each reads back, and a cause is found by its number. The records of the diagnosis are such records:
 -- their numbers fit their fields.
-use mathlib.Core.Path.{◌≡◌, refl, ap, ◌∙◌}
-use mathlib.Core.Bool.{Bool, true, false}
+use mathlib.Core.Path.{◌≡◌, ap, ◌∙◌}
 use mathlib.Core.List.{List}
 use Prim.Native.Nat.{ℕ, ◌<◌}
-use lib.Dec.{eqb}
 use Rattle.mos6502.specs.declared.Decoded.{Decoded}
 use Rattle.image.specs.Image.{byte_at}
 use Rattle.cause.specs.Cause.{cause_at}
 use Rattle.cause.proofs.Numbers.{cause_back}
 use Rattle.records.specs.declared.Fields.{Fields}
-use Rattle.records.specs.Packed.{flag, packed}
+use Rattle.records.specs.Packed.{packed}
 use Rattle.records.proofs.Unpacked.{Sized, unpacks}
 use Rattle.recorder.specs.declared.Pair.{Pair}
 use Rattle.recorder.specs.Records.{fields_of, record_of}
 use Rattle.diagnosis.proofs.Raise.{recorded_sized}
 use Rattle.refusals.specs.Refusals.{refusal_of, struct_of}
-
-reads : (b : Bool) → eqb (flag b) 1 ≡ b
-reads true = refl
-reads false = refl
-
-flagged : {n : ℕ} (b : Bool) → n ≡ flag b → eqb n 1 ≡ b
-flagged b e = rw e (reads b)
 
 module _ (f : Fields) (sized : Sized f) where
   pub unpacks_fields : refusal_of (packed f) ≡ struct_of f
@@ -33,9 +24,8 @@ module _ (f : Fields) (sized : Sized f) where
         opcode = u.opcode i;
         cause = (ap cause_at u.cause ∙ cause_back f.cause) i;
         zp = u.pointer i;
-        has_zp = flagged f.present u.present i;
-        zp_linear = flagged f.linear u.linear i;
-        zp_from_walk = flagged f.walk u.walk i;
+        zp_linear = u.linear i;
+        zp_from_walk = u.walk i;
         from_entries = u.weight i;
       }
 

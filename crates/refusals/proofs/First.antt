@@ -6,7 +6,9 @@ use native.Mathlib.Omega.{arith}
 use lib.ListN.{length, take, drop, length-append, length-drop, take-append-drop, drop_of_length-le}
 use lib.Seq.{take_all, take_at, drop_at}
 use Rattle.mos6502.specs.declared.Decoded.{Decoded}
-use Rattle.diagnosis.specs.declared.DiagAnswer.{DiagAnswer}
+use Rattle.std.specs.Prelude.{Result}
+use Rattle.refusal.specs.declared.Refusal.{Refusal}
+use Rattle.diagnosis.specs.declared.Summary.{Summary}
 use Rattle.diagnosis.specs.Answers.{Answers}
 use Rattle.refusals.specs.Into.{AnswersFirst}
 
@@ -14,7 +16,7 @@ use Rattle.refusals.specs.Into.{AnswersFirst}
 pub same_halves : (n : ℕ) (l m : List ℕ) → take n l ≡ take n m → drop n l ≡ drop n m → l ≡ m
 same_halves n l m e f = sym (take-append-drop n l) ∙ ap₂ (λ (x y : List ℕ). x ++ y) e f ∙ take-append-drop n m
 
-module _ (class : ℕ → Decoded) (image : List ℕ) (load : ℕ) (entries : List ℕ) (most : ℕ) (slots : List ℕ) (r : DiagAnswer) where
+module _ (class : ℕ → Decoded) (image : List ℕ) (load : ℕ) (entries : List ℕ) (most : ℕ) (slots : List ℕ) (r : Result Summary Refusal) where
   pub lent_whole : (slots' : List ℕ) → length slots ≤ most → length slots' ≡ length slots → Answers class image load entries slots slots' r
       → AnswersFirst class image load entries most slots slots' r
   lent_whole slots' h e p =

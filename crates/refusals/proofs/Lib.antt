@@ -2,6 +2,5 @@
 pub mod Over
 pub mod Fields
 pub mod First
-pub mod Into
 pub mod Unique
 pub mod Told

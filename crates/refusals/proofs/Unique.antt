@@ -6,32 +6,32 @@ use Prim.Native.Nat.{ℕ}
 use native.Mathlib.Omega.{arith}
 use lib.ListN.{length, take}
 use Rattle.mos6502.specs.declared.Decoded.{Decoded}
-use Rattle.diagnosis.specs.declared.DiagAnswer.{DiagAnswer}
+use Rattle.std.specs.Prelude.{Result, Ok, Err}
+use Rattle.refusal.specs.declared.Refusal.{Refusal}
+use Rattle.diagnosis.specs.declared.Summary.{Summary}
 use Rattle.diagnosis.proofs.Unique as diagnosis
 use Rattle.refusals.specs.declared.ReachRefusal.{ReachRefusal}
-use Rattle.refusals.specs.declared.UnpackAnswer.{UnpackAnswer}
-use Rattle.refusals.specs.declared.UnpackAnswer.TheVariants.{Unpacked, Short}
 use Rattle.refusals.specs.Refusals.{over, Unpacks}
 use Rattle.refusals.specs.Into.{written_by, AnswersFirst, AnswersInto}
 use Rattle.refusals.proofs.First.{same_halves}
 
-pub answers_unique : (packed : List ℕ) (out after after' : List ReachRefusal) (r r' : UnpackAnswer) → Unpacks packed out after r → Unpacks packed out after' r'
+pub answers_unique : (packed : List ℕ) (out after after' : List ReachRefusal) (r r' : Result ℕ Refusal) → Unpacks packed out after r → Unpacks packed out after' r'
     → (r ≡ r') × (after ≡ after')
-answers_unique packed out after after' (Unpacked n) (Unpacked m) p q = (ap Unpacked (p.0 ∙ sym q.0), p.2 ∙ sym q.2)
-answers_unique packed out after after' (Unpacked n) (Short m) p q = absurd (omega arith)
-answers_unique packed out after after' (Short n) (Unpacked m) p q = absurd (omega arith)
-answers_unique packed out after after' (Short n) (Short m) p q = (ap Short (p.0 ∙ sym q.0), p.2 ∙ sym q.2)
+answers_unique packed out after after' (Ok n) (Ok m) p q = (ap Ok (p.0 ∙ sym q.0), p.2 ∙ sym q.2)
+answers_unique packed out after after' (Ok n) (Err s) p q = absurd (omega arith)
+answers_unique packed out after after' (Err s) (Ok m) p q = absurd (omega arith)
+answers_unique packed out after after' (Err s) (Err t) p q = (ap Err (p.0 ∙ sym q.0), p.2 ∙ sym q.2)
 
 module _ (class : ℕ → Decoded) (image : List ℕ) (load : ℕ) (entries : List ℕ) where
-  pub first_unique : (most : ℕ) (slots after after' : List ℕ) (r r' : DiagAnswer) → AnswersFirst class image load entries most slots after r
+  pub first_unique : (most : ℕ) (slots after after' : List ℕ) (r r' : Result Summary Refusal) → AnswersFirst class image load entries most slots after r
       → AnswersFirst class image load entries most slots after' r' → (r ≡ r') × (after ≡ after')
   first_unique most slots after after' r r' p q =
       let u = diagnosis.answers_unique class image load entries (take most slots) (take most after) (take most after') r r' p.first q.first in
       (u.0, same_halves most after after' u.1 (p.others ∙ sym q.others))
 
-  pub into_unique : (slots after after' : List ℕ) (refusals then then' : List ReachRefusal) (r r' : DiagAnswer)
+  pub into_unique : (slots after after' : List ℕ) (refusals then then' : List ReachRefusal) (r r' : Result Summary Refusal)
       → AnswersInto class image load entries slots after refusals then r → AnswersInto class image load entries slots after' refusals then' r'
       → (r ≡ r') × (after ≡ after') × (then ≡ then')
   into_unique slots after after' refusals then then' r r' p q =
       let u = first_unique (length refusals) slots after after' r r' p.diagnosed q.diagnosed in
-      (u.0, u.1, p.structs ∙ ap₂ (λ (s : DiagAnswer) (l : List ℕ). over (take (written_by s) l) refusals) u.0 u.1 ∙ sym q.structs)
+      (u.0, u.1, p.structs ∙ ap₂ (λ (s : Result Summary Refusal) (l : List ℕ). over (take (written_by s) l) refusals) u.0 u.1 ∙ sym q.structs)

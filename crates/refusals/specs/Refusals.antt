@@ -1,11 +1,12 @@
 -- A record as a struct, and what `unpack_all` answers and leaves in the lent slice (01, "The diagnosis" and "Numbered outcomes"). Assumes nothing.
-use Rattle.std.specs.Prelude.{◌≡◌, List, ◌++◌, map, ℕ, ◌≤◌, ◌<◌, length, drop, eqb}
+use Rattle.std.specs.Prelude.{◌≡◌, List, ◌++◌, map, ℕ, ◌≤◌, ◌<◌, length, drop, Result, Ok, Err}
+use Rattle.refusal.specs.declared.Refusal.{Refusal}
+use Rattle.refusal.specs.declared.Refusal.TheVariants.{Short}
+use Rattle.refusal.specs.Numbers.{needed}
 use Rattle.cause.specs.Cause.{cause_at}
 use Rattle.records.specs.declared.Fields.{Fields}
-use Rattle.records.specs.Packed.{address_of, cause_of, opcode_of, pointer_of, present_of, linear_of, walk_of, weight_of}
+use Rattle.records.specs.Packed.{address_of, cause_of, opcode_of, pointer_of, linear_of, walk_of, weight_of}
 use Rattle.refusals.specs.declared.ReachRefusal.{ReachRefusal}
-use Rattle.refusals.specs.declared.UnpackAnswer.{UnpackAnswer}
-use Rattle.refusals.specs.declared.UnpackAnswer.TheVariants.{Unpacked, Short}
 
 -- a record, unpacked
 abbrev pub refusal_of : ℕ → ReachRefusal
@@ -14,9 +15,8 @@ refusal_of r = record {
   opcode = opcode_of r;
   cause = cause_at (cause_of r);
   zp = pointer_of r;
-  has_zp = eqb (present_of r) 1;
-  zp_linear = eqb (linear_of r) 1;
-  zp_from_walk = eqb (walk_of r) 1;
+  zp_linear = linear_of r;
+  zp_from_walk = walk_of r;
   from_entries = weight_of r;
 }
 
@@ -27,7 +27,6 @@ struct_of f = record {
   opcode = f.opcode;
   cause = f.cause;
   zp = f.pointer;
-  has_zp = f.present;
   zp_linear = f.linear;
   zp_from_walk = f.walk;
   from_entries = f.weight;
@@ -37,22 +36,17 @@ struct_of f = record {
 abbrev pub over : (records : List ℕ) → List ReachRefusal → List ReachRefusal
 over records out = map refusal_of records ++ drop (length records) out
 
--- ── 01's number and values ──
-abbrev pub number_of : UnpackAnswer → ℕ
-number_of (Unpacked n) = 0
-number_of (Short needed) = 6
-
 -- the number of structs written
-abbrev pub count_of : UnpackAnswer → ℕ
-count_of (Unpacked n) = n
-count_of (Short needed) = 0
+abbrev pub count_of : Result ℕ Refusal → ℕ
+count_of (Ok n) = n
+count_of (Err r) = 0
 
 -- the number of structs needed, in a refusal for a slice too short
-abbrev pub needed_of : UnpackAnswer → ℕ
-needed_of (Unpacked n) = 0
-needed_of (Short needed) = needed
+abbrev pub needed_of : Result ℕ Refusal → ℕ
+needed_of (Ok n) = 0
+needed_of (Err r) = needed r
 
--- Each answer, and the structs before and after. An answer writes structs 0 to n - 1 and no other; a slice too short is left as it was.
-abbrev pub Unpacks : (packed : List ℕ) (out out' : List ReachRefusal) → UnpackAnswer → Type 0
-Unpacks packed out out' (Unpacked n) = (n ≡ length packed) × (length packed ≤ length out) × (out' ≡ over packed out)
-Unpacks packed out out' (Short needed) = (needed ≡ length packed) × (length out < needed) × (out' ≡ out)
+-- Each answer, and the structs before and after. An answer writes structs 0 to n - 1 and no other; a slice too short is left as it was, and nothing else is refused.
+abbrev pub Unpacks : (packed : List ℕ) (out out' : List ReachRefusal) → Result ℕ Refusal → Type 0
+Unpacks packed out out' (Ok n) = (n ≡ length packed) × (length packed ≤ length out) × (out' ≡ over packed out)
+Unpacks packed out out' (Err r) = (r ≡ Short (length packed)) × (length out < length packed) × (out' ≡ out)

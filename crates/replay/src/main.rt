@@ -5,14 +5,15 @@
 ghost use Rattle.std.specs.Prelude.{◌≡◌, ◌+◌, ◌*◌, ◌≤◌, length, take};
 ghost use Rattle.report.specs.Report.{Enough, EnoughStores};
 
-use diagnosis::DiagAnswer;
+use arrayvec::ArrayVec;
+use diagnosis::Summary;
 use reading::read_full;
+use refusal::Refusal;
 use report::{LINE_END, SPACE};
-use span::{EndAnswer, SpanAnswer};
+use span::Span;
 use std::io;
 use std::io::Read;
-use stores::StoresAnswer;
-use tracker::{Known, Registers};
+use tracker::Registers;
 
 // The largest input. The library takes larger ones than a job may have, so these go past 01's limits.
 const MOST_ENTRIES: usize = 70000;
@@ -33,6 +34,9 @@ const SPARE: usize = 3;
 // 39 x 73,729 + 196 = 2,875,627 bytes for the diagnosis, 12 x 4,096 + 196 = 49,348 for the stores, 2,927,187 for all.
 const MOST_TEXT: usize = 39 * MOST_REFUSALS + 12 * MOST_STORES + 8 * 256 + 556;
 
+// All answers to an input.
+type Text = ArrayVec<u8, MOST_TEXT>;
+
 // What no record is, so that a slot that was written is seen: a cause 255, and a store whose low is above its high.
 const NO_REFUSAL: u64 = 0xFFFF_FFFF_FFFF_FFFF;
 
@@ -47,15 +51,8 @@ struct Tried {
 
 // What a call answers with exactly as many slots as it needs, with one fewer and with some to spare.
 #[derive(Clone, Copy)]
-struct DiagTests {
-    answer: DiagAnswer,
-    short: Tried,
-    spare: Tried,
-}
-
-#[derive(Clone, Copy)]
-struct StoresTests {
-    answer: StoresAnswer,
+struct Tests<A> {
+    answer: Result<A, Refusal>,
     short: Tried,
     spare: Tried,
 }
@@ -63,135 +60,76 @@ struct StoresTests {
 // ── SPAN, COUNT, END, GUARDED ──
 
 // The count, where a span was given.
-fn put_count(out: &mut [u8], n: usize, answer: SpanAnswer) -> usize
-    requires { n + 27 ≤ length out.old }
-    ensures { result ≤ n + 27 }
+fn put_count(out: &mut Text, answer: Result<Span, Refusal>)
+    requires { length out.old.items + 27 ≤ 2927187 }
+    ensures { length out.new.items ≤ length out.old.items + 27 }
 {
-    if let SpanAnswer::Given(s) = answer {
-        return report::put_number(out, n, b"COUNT", s.count as u64);
+    if let Ok(s) = answer {
+        report::put_number(out, b"COUNT", s.count as u64);
     }
-    n
 }
 
-// 01's number of an answer.
-fn end_number(answer: EndAnswer) -> u8 {
+fn put_end(out: &mut Text, answer: Result<u16, Refusal>)
+    requires { length out.old.items + 40 ≤ 2927187 }
+    ensures { length out.new.items ≤ length out.old.items + 40 }
+{
     match answer {
-        EndAnswer::Given(_) => 0,
-        EndAnswer::ImageEmpty => 1,
-        EndAnswer::NoEntries => 2,
-        EndAnswer::PastTop => 3,
-        EndAnswer::Refused => 4,
-        EndAnswer::Full => 7,
+        Ok(high) => {
+            report::put_word(out, b"END", SPACE);
+            report::put_hex(out, 4, high, LINE_END);
+        }
+        Err(refusal) => report::put_none(out, b"END", refusal.number()),
     }
 }
 
-fn put_end(out: &mut [u8], n: usize, answer: EndAnswer) -> usize
-    requires { n + 40 ≤ length out.old }
-    ensures { result ≤ n + 40 }
-{
-    if let EndAnswer::Given(high) = answer {
-        let a = report::put_word(out, n, b"END", SPACE);
-        return report::put_hex(out, a, 4, high, LINE_END);
-    }
-    report::put_none(out, n, b"END", end_number(answer))
-}
-
-fn put_spans(out: &mut [u8], n: usize, image: &[u8], load: u16, entries: &[u16]) -> usize
-    requires { n + 147 ≤ length out.old }
-    ensures { result ≤ n + 147 }
+fn put_spans(out: &mut Text, image: &[u8], load: u16, entries: &[u16])
+    requires { length out.old.items + 147 ≤ 2927187 }
+    ensures { length out.new.items ≤ length out.old.items + 147 }
 {
     let plain = span::reachable_span(image, load, entries);
-    let a = report::put_span(out, n, b"SPAN", plain);
-    let b = put_count(out, a, plain);
-    let c = put_end(out, b, span::reachable_end(image, load, entries));
-    report::put_span(out, c, b"GUARDED", span::guarded_span(image, load, entries))
+    report::put_span(out, b"SPAN", plain);
+    put_count(out, plain);
+    put_end(out, span::reachable_end(image, load, entries));
+    report::put_span(out, b"GUARDED", span::guarded_span(image, load, entries));
 }
 
 // ── DIAG, STORES: with lists of several lengths ──
 
 // SHORT or SPARE, where it is to be shown.
-fn put_tried(out: &mut [u8], n: usize, name: &[u8], tried: Tried, is_shown: bool) -> usize
-    requires { (length name.now ≤ 5) × (n + 48 ≤ length out.old) }
-    ensures { result ≤ n + 48 }
+fn put_tried(out: &mut Text, name: &[u8], tried: Tried, is_shown: bool)
+    requires { (length name.now ≤ 5) × (length out.old.items + 48 ≤ 2927187) }
+    ensures { length out.new.items ≤ length out.old.items + 48 }
 {
-    if !is_shown {
-        return n;
+    if is_shown {
+        report::put_word(out, name, SPACE);
+        report::put_decimal(out, tried.records as u64, SPACE);
+        report::put_decimal(out, tried.unlike as u64, LINE_END);
     }
-    let a = report::put_word(out, n, name, SPACE);
-    let b = report::put_decimal(out, a, tried.records as u64, SPACE);
-    report::put_decimal(out, b, tried.unlike as u64, LINE_END)
 }
 
-// One slot fewer than needed.
-fn fewer(needed: usize) -> usize
-    ensures { result ≤ needed }
+// SHORT, where a list can have fewer slots than needed, and SPARE, where the call has an answer.
+fn put_tests<A>(out: &mut Text, tests: &Tests<A>, is_any_needed: bool)
+    requires { length out.old.items + 96 ≤ 2927187 }
+    ensures { length out.new.items ≤ length out.old.items + 96 }
 {
-    if needed == 0 { 0 } else { needed - 1 }
-}
-
-fn is_diagnosed(answer: DiagAnswer) -> bool {
-    match answer {
-        DiagAnswer::Answered(_) => true,
-        _ => false,
-    }
-}
-
-fn is_stored(answer: StoresAnswer) -> bool {
-    match answer {
-        StoresAnswer::Answered(_) => true,
-        _ => false,
-    }
+    put_tried(out, b"SHORT", tests.short, is_any_needed);
+    put_tried(out, b"SPARE", tests.spare, tests.answer.is_ok());
 }
 
 // The number of records that an answer tells: those that it gives, or those that it needs.
-fn refusals_in(answer: DiagAnswer) -> usize {
-    match answer {
-        DiagAnswer::Answered(s) => s.records,
-        DiagAnswer::Short(n) => n,
-        _ => 0,
-    }
-}
-
-fn stores_in(answer: StoresAnswer) -> usize {
-    match answer {
-        StoresAnswer::Answered(n) => n,
-        StoresAnswer::Short(n) => n,
-        _ => 0,
-    }
-}
-
-// Puts the pattern into the first `n` slots.
-fn clear(slots: &mut [u64], n: usize)
-    requires { n ≤ length slots.old }
-{
-    for i in 0..n {
-        slots[i] = NO_REFUSAL;
-    }
+fn records_in(answer: Result<usize, Refusal>) -> usize {
+    answer.unwrap_or_else(|refusal| refusal.needed())
 }
 
 // How many of the first `n` slots of two lists are not the same.
-fn unlike_refusals(expected: &[u64], slots: &[u64], n: usize) -> usize
+fn unlike<T: PartialEq + Copy>(expected: &[T], slots: &[T], n: usize) -> usize
     requires { (n ≤ length expected.now) × (n ≤ length slots.now) }
 {
-    let mut count = 0;
-    for i in 0..n {
-        if slots[i] != expected[i] {
-            count += 1;
-        }
-    }
-    count
-}
-
-fn unlike_stores(expected: &[u32], slots: &[u32], n: usize) -> usize
-    requires { (n ≤ length expected.now) × (n ≤ length slots.now) }
-{
-    let mut count = 0;
-    for i in 0..n {
-        if slots[i] != expected[i] {
-            count += 1;
-        }
-    }
-    count
+    slots[..n]
+        .iter()
+        .zip(&expected[..n])
+        .filter(|(slot, wanted)| slot != wanted)
+        .count()
 }
 
 // Calls `diagnose` with the first `n` slots, all pattern, which are to be as expected after it.
@@ -205,10 +143,12 @@ fn try_diagnose(
 ) -> Tried
     requires { (n ≤ length expected.now) × (n ≤ length slots.old) }
 {
-    clear(slots, n);
-    let records = refusals_in(diagnosis::diagnose(image, load, entries, &mut slots[..n]));
-    let unlike = unlike_refusals(expected, slots, n);
-    Tried { records, unlike }
+    slots[..n].fill(NO_REFUSAL);
+    let answer = diagnosis::diagnose(image, load, entries, &mut slots[..n]);
+    Tried {
+        records: records_in(answer.map(|s| s.records)),
+        unlike: unlike(expected, slots, n),
+    }
 }
 
 // Calls `write_extent` in the same way. Its list is short enough to be made anew for each call.
@@ -216,9 +156,11 @@ fn try_write_extent(image: &[u8], load: u16, entries: &[u16], expected: &[u32], 
     requires { (n ≤ length expected.now) × (n ≤ 4099) }
 {
     let mut slots = [NO_STORE; MOST_STORES + SPARE];
-    let records = stores_in(stores::write_extent(image, load, entries, &mut slots[..n]));
-    let unlike = unlike_stores(expected, &slots, n);
-    Tried { records, unlike }
+    let answer = stores::write_extent(image, load, entries, &mut slots[..n]);
+    Tried {
+        records: records_in(answer),
+        unlike: unlike(expected, &slots, n),
+    }
 }
 
 // Calls `diagnose` with one slot fewer than needed, with as many, and with some to spare. Before the second call `exact` is all pattern, as a list too short
@@ -230,15 +172,15 @@ fn test_diagnose(
     exact: &mut [u64],
     other: &mut [u64],
     needed: usize,
-) -> DiagTests
+) -> Tests<Summary>
     requires { (needed + 3 ≤ length exact.old) × (needed + 3 ≤ length other.old) }
     ensures { Enough result.answer (take needed exact.new) }
 {
-    clear(exact, needed + SPARE);
-    let short = try_diagnose(image, load, entries, exact, other, fewer(needed));
+    exact[..needed + SPARE].fill(NO_REFUSAL);
+    let short = try_diagnose(image, load, entries, exact, other, needed.saturating_sub(1));
     let answer = diagnosis::diagnose(image, load, entries, &mut exact[..needed]);
     let spare = try_diagnose(image, load, entries, exact, other, needed + SPARE);
-    DiagTests {
+    Tests {
         answer,
         short,
         spare,
@@ -252,14 +194,14 @@ fn test_write_extent(
     entries: &[u16],
     exact: &mut [u32],
     needed: usize,
-) -> StoresTests
+) -> Tests<usize>
     requires { (needed ≤ 4096) × (length exact.old ≡ 4099) }
     ensures { EnoughStores result.answer (take needed exact.new) }
 {
-    let short = try_write_extent(image, load, entries, exact, fewer(needed));
+    let short = try_write_extent(image, load, entries, exact, needed.saturating_sub(1));
     let answer = stores::write_extent(image, load, entries, &mut exact[..needed]);
     let spare = try_write_extent(image, load, entries, exact, needed + SPARE);
-    StoresTests {
+    Tests {
         answer,
         short,
         spare,
@@ -267,148 +209,118 @@ fn test_write_extent(
 }
 
 // DIAG, its records, SHORT and SPARE.
-fn put_diag_tests(out: &mut [u8], n: usize, tests: DiagTests, slots: &[u64]) -> usize
-    requires { (n + 2875627 ≤ length out.old) × (length slots.now ≤ 73729) × Enough tests.answer slots.now }
-    ensures { result ≤ n + 2875627 }
+fn put_diag_tests(out: &mut Text, tests: Tests<Summary>, slots: &[u64])
+    requires { (length out.old.items + 2875627 ≤ 2927187) × (length slots.now ≤ 73729) × Enough tests.answer slots.now }
+    ensures { length out.new.items ≤ length out.old.items + 2875627 }
 {
-    let answer = tests.answer;
-    let short = tests.short;
-    let spare = tests.spare;
-    let a = report::put_diag(out, n, answer, slots);
-    let b = put_tried(out, a, b"SHORT", short, slots.len() > 0);
-    put_tried(out, b, b"SPARE", spare, is_diagnosed(answer))
+    report::put_diag(out, tests.answer, slots);
+    put_tests(out, &tests, !slots.is_empty());
 }
 
 // STORES, its records, SHORT and SPARE.
-fn put_stores_tests(out: &mut [u8], n: usize, tests: StoresTests, slots: &[u32]) -> usize
-    requires { (n + 49348 ≤ length out.old) × (length slots.now ≤ 4096) × EnoughStores tests.answer slots.now }
-    ensures { result ≤ n + 49348 }
+fn put_stores_tests(out: &mut Text, tests: Tests<usize>, slots: &[u32])
+    requires { (length out.old.items + 49348 ≤ 2927187) × (length slots.now ≤ 4096) × EnoughStores tests.answer slots.now }
+    ensures { length out.new.items ≤ length out.old.items + 49348 }
 {
-    let answer = tests.answer;
-    let short = tests.short;
-    let spare = tests.spare;
-    let a = report::put_extent(out, n, answer, slots);
-    let b = put_tried(out, a, b"SHORT", short, slots.len() > 0);
-    put_tried(out, b, b"SPARE", spare, is_stored(answer))
+    report::put_extent(out, tests.answer, slots);
+    put_tests(out, &tests, !slots.is_empty());
 }
 
 fn put_diagnosis(
-    out: &mut [u8],
-    n: usize,
+    out: &mut Text,
     image: &[u8],
     load: u16,
     entries: &[u16],
     exact: &mut [u64],
     other: &mut [u64],
-) -> usize
-    requires { (n + 2875627 ≤ length out.old) × (length exact.old ≡ 73732) × (length other.old ≡ 73732) }
-    ensures { result ≤ n + 2875627 }
+)
+    requires { (length out.old.items + 2875627 ≤ 2927187) × (length exact.old ≡ 73732) × (length other.old ≡ 73732) }
+    ensures { length out.new.items ≤ length out.old.items + 2875627 }
 {
-    let needed = refusals_in(diagnosis::diagnose(image, load, entries, &mut []));
+    let answer = diagnosis::diagnose(image, load, entries, &mut []);
+    let needed = records_in(answer.map(|s| s.records));
     // Not met, and not proved so.
     if needed > MOST_REFUSALS {
-        return report::put_word(out, n, b"TOOMANY", LINE_END);
+        return report::put_word(out, b"TOOMANY", LINE_END);
     }
     let tests = test_diagnose(image, load, entries, exact, other, needed);
-    put_diag_tests(out, n, tests, &exact[..needed])
+    put_diag_tests(out, tests, &exact[..needed]);
 }
 
-fn put_stores(out: &mut [u8], n: usize, image: &[u8], load: u16, entries: &[u16]) -> usize
-    requires { n + 49348 ≤ length out.old }
-    ensures { result ≤ n + 49348 }
+fn put_stores(out: &mut Text, image: &[u8], load: u16, entries: &[u16])
+    requires { length out.old.items + 49348 ≤ 2927187 }
+    ensures { length out.new.items ≤ length out.old.items + 49348 }
 {
-    let needed = stores_in(stores::write_extent(image, load, entries, &mut []));
+    let needed = records_in(stores::write_extent(image, load, entries, &mut []));
     // Not met, and not proved so.
     if needed > MOST_STORES {
-        return report::put_word(out, n, b"TOOMANY", LINE_END);
+        return report::put_word(out, b"TOOMANY", LINE_END);
     }
     let mut exact = [NO_STORE; MOST_STORES + SPARE];
     let tests = test_write_extent(image, load, entries, &mut exact, needed);
-    put_stores_tests(out, n, tests, &exact[..needed])
+    put_stores_tests(out, tests, &exact[..needed]);
 }
 
 // ── TRACK, Z ──
 
-fn put_known(out: &mut [u8], n: usize, value: Known, after: u8) -> usize
-    requires { n + 3 ≤ length out.old }
-    ensures { result ≡ n + 3 }
+fn put_registers(out: &mut Text, regs: Registers)
+    requires { length out.old.items + 15 ≤ 2927187 }
+    ensures { length out.new.items ≤ length out.old.items + 15 }
 {
-    if let Known::Value(v) = value {
-        return report::put_held(out, n, 1, v, after);
+    report::put_word(out, b"TRACK", SPACE);
+    report::put_held(out, regs.a, SPACE);
+    report::put_held(out, regs.x, SPACE);
+    report::put_held(out, regs.y, LINE_END);
+}
+
+// A line for a byte that is known.
+fn put_zero_page_byte(out: &mut Text, address: u16, value: Option<u8>)
+    requires { length out.old.items + 8 ≤ 2927187 }
+    ensures { length out.new.items ≤ length out.old.items + 8 }
+{
+    if let Some(byte) = value {
+        report::put_word(out, b"Z", SPACE);
+        report::put_hex(out, 2, address, SPACE);
+        report::put_hex(out, 2, byte as u16, LINE_END);
     }
-    report::put_held(out, n, 0, 0, after)
 }
 
-fn put_registers(out: &mut [u8], n: usize, regs: Registers) -> usize
-    requires { n + 15 ≤ length out.old }
-    ensures { result ≡ n + 15 }
+fn put_zero_page(out: &mut Text, zp: &[Option<u8>; 256])
+    requires { length out.old.items + 2048 ≤ 2927187 }
+    ensures { length out.new.items ≤ length out.old.items + 2048 }
 {
-    let a = regs.a;
-    let x = regs.x;
-    let y = regs.y;
-    let to_a = report::put_word(out, n, b"TRACK", SPACE);
-    let to_x = put_known(out, to_a, a, SPACE);
-    let to_y = put_known(out, to_x, x, SPACE);
-    put_known(out, to_y, y, LINE_END)
-}
-
-// A line for a byte that is marked.
-fn put_zero_page_byte(out: &mut [u8], n: usize, mark: u8, address: u16, value: u8) -> usize
-    requires { n + 8 ≤ length out.old }
-    ensures { result ≤ n + 8 }
-{
-    if mark != 1 {
-        return n;
+    for z in 0..256u16 {
+        put_zero_page_byte(out, z, zp[z as usize]);
     }
-    let a = report::put_word(out, n, b"Z", SPACE);
-    let b = report::put_hex(out, a, 2, address, SPACE);
-    report::put_hex(out, b, 2, value as u16, LINE_END)
 }
 
-fn put_zero_page(out: &mut [u8], n: usize, zp: &[u8; 256], marks: &[u8; 256]) -> usize
-    requires { n + 2048 ≤ length out.old }
-    ensures { result ≤ n + 2048 }
-{
-    let values = &zp[..];
-    let known = &marks[..];
-    let mut at = n;
-    for i in 0..256usize {
-        at = put_zero_page_byte(out, at, known[i], i as u16, values[i]);
-    }
-    at
-}
-
-fn put_tracked(out: &mut [u8], n: usize, image: &[u8]) -> usize
-    requires { n + 2063 ≤ length out.old }
-    ensures { result ≤ n + 2063 }
+fn put_tracked(out: &mut Text, image: &[u8])
+    requires { length out.old.items + 2063 ≤ 2927187 }
+    ensures { length out.new.items ≤ length out.old.items + 2063 }
 {
     let state = tracker::track_immediates(image);
-    let regs = state.regs;
-    let zp = state.zp;
-    let marks = state.marks;
-    let a = put_registers(out, n, regs);
-    put_zero_page(out, a, &zp, &marks)
+    put_registers(out, state.regs);
+    put_zero_page(out, &state.zp);
 }
 
 // ── an input ──
 
 // All answers to an input.
 fn put_answers(
-    out: &mut [u8],
+    out: &mut Text,
     image: &[u8],
     load: u16,
     entries: &[u16],
     exact: &mut [u64],
     other: &mut [u64],
-) -> usize
-    requires { (2927187 ≤ length out.old) × (length exact.old ≡ 73732) × (length other.old ≡ 73732) }
-    ensures { result ≤ 2927187 }
+)
+    requires { (length out.old.items ≡ 0) × (length exact.old ≡ 73732) × (length other.old ≡ 73732) }
 {
-    let a = put_spans(out, 0, image, load, entries);
-    let b = put_diagnosis(out, a, image, load, entries, exact, other);
-    let c = put_stores(out, b, image, load, entries);
-    let d = put_tracked(out, c, image);
-    report::put_word(out, d, b".", LINE_END)
+    put_spans(out, image, load, entries);
+    put_diagnosis(out, image, load, entries, exact, other);
+    put_stores(out, image, load, entries);
+    put_tracked(out, image);
+    report::put_word(out, b".", LINE_END);
 }
 
 // Decodes the entries into the first slots of the list.
@@ -429,25 +341,24 @@ fn answer(
     entries: &mut [u16; MOST_ENTRIES],
     exact: &mut [u64; MOST_REFUSALS + SPARE],
     other: &mut [u64; MOST_REFUSALS + SPARE],
-    out: &mut [u8; MOST_TEXT],
+    out: &mut Text,
 ) -> io::Result<()>
     requires { (count ≤ 70000) × (2 * count ≤ length bytes.now) }
 {
-    // As slices, they tell the proof their lengths.
+    // As a slice, it tells the proof its length.
     let slots = &mut entries[..];
-    let text = &mut out[..];
     decode_entries(bytes, count, slots);
     let decoded = &slots[..];
-    let n = put_answers(
-        text,
+    out.clear();
+    put_answers(
+        out,
         &bytes[2 * count..],
         load,
         &decoded[..count],
         &mut exact[..],
         &mut other[..],
     );
-    let answers = &text[..];
-    rt.write_all(&answers[..n])
+    rt.write_all(out.as_slice())
 }
 
 // Ends the stream at an input that is cut short or too large.
@@ -464,7 +375,7 @@ fn answer_next(
     entries: &mut [u16; MOST_ENTRIES],
     exact: &mut [u64; MOST_REFUSALS + SPARE],
     other: &mut [u64; MOST_REFUSALS + SPARE],
-    out: &mut [u8; MOST_TEXT],
+    out: &mut Text,
 ) -> io::Result<bool> {
     let mut header = [0u8; HEADER];
     let got = read_full(input, &mut header)?;
@@ -487,28 +398,34 @@ fn answer_next(
     Ok(true)
 }
 
-fn main(rt: HostRuntime) -> io::Result<()> {
+// Answers the inputs one after the other, until the stream ends.
+fn answer_all(rt: &(impl io::Input + Print), out: &mut Text) -> io::Result<()> {
     let mut input = rt.reader();
     // Lent to every turn, and not made anew in each: they are large, and most inputs are small.
     let mut bytes = [0u8; 2 * MOST_ENTRIES + MOST_BYTES];
     let mut entries = [0u16; MOST_ENTRIES];
     let mut exact = [0u64; MOST_REFUSALS + SPARE];
     let mut other = [0u64; MOST_REFUSALS + SPARE];
-    let mut out = [0u8; MOST_TEXT];
     // A proved loop has to end, and nothing says that a stream does. So the turns are counted down, from a number that no run uses up.
     let mut turns = u64::MAX;
     while turns > 0
         && answer_next(
-            &rt,
+            rt,
             &mut input,
             &mut bytes,
             &mut entries,
             &mut exact,
             &mut other,
-            &mut out,
+            out,
         )?
     {
         turns -= 1;
     }
     Ok(())
+}
+
+fn main(rt: HostRuntime) -> io::Result<()> {
+    // Made before the other lists, since making it takes its size once more on the stack.
+    let mut out = Text::new();
+    answer_all(&rt, &mut out)
 }

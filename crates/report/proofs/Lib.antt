@@ -1,7 +1,6 @@
 -- The laws behind the report.
-pub mod Joining
 pub mod Lengths
+pub mod Listing
 pub mod Answering
 pub mod Parts
-pub mod Listing
 pub mod Unique

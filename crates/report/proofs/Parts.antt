@@ -1,22 +1,21 @@
--- The parts of a job that is read: its entries are in the first slots, its image is what follows them, a refused job has only its number to tell, and what is written stands in
--- the buffer.
+-- The parts of a job that is read: its entries are in the first slots, and its image is what follows them. A refused job has only its number to tell.
 use mathlib.Core.Path.{◌≡◌, sym, ap, ◌∙◌}
 use mathlib.Core.List.{List, ◌++◌}
 use Prim.Native.Nat.{ℕ, ◌-◌, ◌≤◌}
 use native.Mathlib.Omega.{arith}
 use lib.ListN.{length, take, drop, length-append}
 use lib.Seq.{take_at}
+use Rattle.std.specs.Prelude.{Result, Ok}
 use Rattle.job.specs.declared.Job.{Job}
-use Rattle.job.specs.declared.JobAnswer.{JobAnswer}
-use Rattle.job.specs.declared.JobAnswer.TheVariants.{Read}
+use Rattle.job.specs.declared.JobError.{JobError}
 use Rattle.job.specs.Job.{job_of, entries_of, image_of, entries_in}
 use Rattle.job.proofs.Parts.{parts}
-use Rattle.report.specs.declared.ReportAnswer.{ReportAnswer}
+use Rattle.report.specs.declared.TooShort.{TooShort}
 use Rattle.report.specs.Report.{TextOf, Delivers, TellsAll, Reports}
 
-module _ (bytes slots slots' : List ℕ) (job : Job) {answer : JobAnswer} (read : (answer ≡ job_of bytes) × (slots' ≡ entries_in bytes slots answer))
-    (told : answer ≡ Read job) where
-  is_job : job_of bytes ≡ Read job
+module _ (bytes slots slots' : List ℕ) (job : Job) {answer : Result Job JobError} (read : (answer ≡ job_of bytes) × (slots' ≡ entries_in bytes slots answer))
+    (told : answer ≡ Ok job) where
+  is_job : job_of bytes ≡ Ok job
   is_job = sym read.0 ∙ told
 
   filled : slots' ≡ entries_of bytes job ++ drop job.count slots
@@ -36,11 +35,11 @@ module _ (bytes slots slots' : List ℕ) (job : Job) {answer : JobAnswer} (read 
       let size : length bytes - job.image ≡ job.size = omega (arith, (parts bytes is_job).image_to) in
       ap (λ (k : ℕ). take k (drop job.image bytes)) size
 
-  pub reports_answers : {image entries out out' : List ℕ} {r : ReportAnswer} → image ≡ image_of bytes job → entries ≡ entries_of bytes job
+  pub reports_answers : {image entries out out' : List ℕ} {r : Result ℕ TooShort} → image ≡ image_of bytes job → entries ≡ entries_of bytes job
       → TellsAll image job.load entries out out' r → Reports bytes out out' r
   reports_answers i e t = record { text = t.text; is_text = rw is_job (rw (i, e) at t.tells); delivers = t.delivers }
 
 -- a refused job
-pub reports_refusal : (bytes out out' text : List ℕ) {answer : JobAnswer} {r : ReportAnswer} → job_of bytes ≡ answer → TextOf bytes answer text
+pub reports_refusal : (bytes out out' text : List ℕ) {answer : Result Job JobError} {r : Result ℕ TooShort} → job_of bytes ≡ answer → TextOf bytes answer text
     → Delivers text out out' r → Reports bytes out out' r
 reports_refusal bytes out out' text is t d = record { text = text; is_text = rw is t; delivers = d }

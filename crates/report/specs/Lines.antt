@@ -1,24 +1,14 @@
 -- The lines of a report (01, "Job file and `reachreport`"). Addresses and bytes are upper-case hexadecimal, counts decimal. Assumes nothing.
-use Rattle.std.specs.Prelude.{cond, List, [], ◌∷◌, ◌++◌, ℕ, ◌+◌, ◌/◌, ◌%◌, ◌≤◌, eqb, length, take}
+use Rattle.std.specs.Prelude.{List, [], ◌∷◌, ◌++◌, ℕ, ◌/◌, ◌%◌, take, Option, Some, None, Result, Ok, Err}
+use Rattle.std.specs.Int.{from_bool}
 use Rattle.lists.specs.Text.{ascii}
 use Rattle.text.specs.Text.{hex_of, decimal_of}
 use Rattle.cause.specs.Cause.{cause_at, slug_of}
-use Rattle.records.specs.Packed.{address_of, cause_of, opcode_of, pointer_of, present_of, linear_of, walk_of, weight_of}
-use Rattle.span.specs.declared.SpanAnswer.{SpanAnswer}
-use Rattle.span.specs.declared.SpanAnswer.TheVariants as span
-use Rattle.span.specs.Answers as span_numbers
+use Rattle.records.specs.Packed.{address_of, cause_of, opcode_of, pointer_of, linear_of, walk_of, weight_of}
+use Rattle.refusal.specs.declared.Refusal.{Refusal}
+use Rattle.refusal.specs.Numbers.{number}
+use Rattle.span.specs.declared.Span.{Span}
 use Rattle.diagnosis.specs.declared.Summary.{Summary}
-use Rattle.diagnosis.specs.declared.DiagAnswer.{DiagAnswer}
-use Rattle.diagnosis.specs.declared.DiagAnswer.TheVariants as diagnosis
-use Rattle.diagnosis.specs.Answers as diagnosis_numbers
-use Rattle.stores.specs.declared.StoresAnswer.{StoresAnswer}
-use Rattle.stores.specs.declared.StoresAnswer.TheVariants as stores
-use Rattle.stores.specs.Answers as stores_numbers
-
--- ── a text in a buffer ──
--- there is room for the text from n on
-pub record Room (out : List ℕ) (n : ℕ) (text : List ℕ) : Type 0 where
-  pub fits : n + length text ≤ length out
 
 -- ── a line ──
 -- a word, and the rest of its line after a space
@@ -34,30 +24,27 @@ end word = word ++ 0x0A ∷ []
 abbrev pub number_line : (name : List ℕ) (n : ℕ) → List ℕ
 number_line name n = name ␣ end (decimal_of n)
 
--- a byte where the mark is 1, and `--` where it is not there
-abbrev pub held_word : (mark value : ℕ) → List ℕ
-held_word mark value = cond (eqb mark 1) (hex_of 2 value) (ascii "--")
+-- a byte, or `--` where there is none
+abbrev pub held_word : Option ℕ → List ℕ
+held_word None = ascii "--"
+held_word (Some byte) = hex_of 2 byte
 
 -- an answer that is a refusal: NONE and the number
 abbrev pub none : (name : List ℕ) (number : ℕ) → List ℕ
 none name number = name ␣ number_line (ascii "NONE") number
 
 -- ── SPAN and GUARDED: low, high ──
-abbrev pub span_line : (name : List ℕ) → SpanAnswer → List ℕ
-span_line name (span.Given s) = name ␣ hex_of 4 s.low ␣ end (hex_of 4 s.high)
-span_line name span.ImageEmpty = none name (span_numbers.number_of span.ImageEmpty)
-span_line name span.NoEntries = none name (span_numbers.number_of span.NoEntries)
-span_line name span.PastTop = none name (span_numbers.number_of span.PastTop)
-span_line name span.Refused = none name (span_numbers.number_of span.Refused)
-span_line name span.Full = none name (span_numbers.number_of span.Full)
+abbrev pub span_line : (name : List ℕ) → Result Span Refusal → List ℕ
+span_line name (Ok s) = name ␣ hex_of 4 s.low ␣ end (hex_of 4 s.high)
+span_line name (Err e) = none name (number e)
 
 -- ── DIAG: low, high, instructions, records; and R: address, opcode, slug, pointer or `--`, linear, walk, weight ──
 -- the pointer is shown where it is present
 abbrev pub pointer_word : (r : ℕ) → List ℕ
-pointer_word r = held_word (present_of r) (pointer_of r)
+pointer_word r = held_word (pointer_of r)
 
 abbrev pub flag_words : (r : ℕ) → List ℕ
-flag_words r = hex_of 1 (linear_of r) ␣ hex_of 1 (walk_of r) ␣ end (decimal_of (weight_of r))
+flag_words r = hex_of 1 (from_bool (linear_of r)) ␣ hex_of 1 (from_bool (walk_of r)) ␣ end (decimal_of (weight_of r))
 
 abbrev pub cause_words : (r : ℕ) → List ℕ
 cause_words r = slug_of (cause_at (cause_of r)) ␣ pointer_word r ␣ flag_words r
@@ -77,27 +64,17 @@ lines line [] = []
 lines line (r ∷ rs) = line r ++ lines line rs
 
 -- where the slots hold these numbers
-abbrev pub diag_lines : DiagAnswer → (slots : List ℕ) → List ℕ
-diag_lines (diagnosis.Answered s) slots = summary_line s ++ lines record_line (take s.records slots)
-diag_lines diagnosis.ImageEmpty slots = none (ascii "DIAG") (diagnosis_numbers.number_of diagnosis.ImageEmpty)
-diag_lines diagnosis.NoEntries slots = none (ascii "DIAG") (diagnosis_numbers.number_of diagnosis.NoEntries)
-diag_lines diagnosis.PastTop slots = none (ascii "DIAG") (diagnosis_numbers.number_of diagnosis.PastTop)
-diag_lines (diagnosis.Short n) slots = none (ascii "DIAG") (diagnosis_numbers.number_of (diagnosis.Short n))
-diag_lines diagnosis.Full slots = none (ascii "DIAG") (diagnosis_numbers.number_of diagnosis.Full)
+abbrev pub diag_lines : Result Summary Refusal → (slots : List ℕ) → List ℕ
+diag_lines (Ok s) slots = summary_line s ++ lines record_line (take s.records slots)
+diag_lines (Err e) slots = none (ascii "DIAG") (number e)
 
 -- ── STORES: record count; and W: low, high ──
 abbrev pub store_line : (r : ℕ) → List ℕ
 store_line r = ascii "W" ␣ hex_of 4 (r / 65536) ␣ end (hex_of 4 (r % 65536))
 
-abbrev pub stores_lines : StoresAnswer → (slots : List ℕ) → List ℕ
-stores_lines (stores.Answered n) slots = number_line (ascii "STORES") n ++ lines store_line (take n slots)
-stores_lines stores.ImageEmpty slots = none (ascii "STORES") (stores_numbers.number_of stores.ImageEmpty)
-stores_lines stores.NoEntries slots = none (ascii "STORES") (stores_numbers.number_of stores.NoEntries)
-stores_lines stores.PastTop slots = none (ascii "STORES") (stores_numbers.number_of stores.PastTop)
-stores_lines stores.Refused slots = none (ascii "STORES") (stores_numbers.number_of stores.Refused)
-stores_lines stores.Unbounded slots = none (ascii "STORES") (stores_numbers.number_of stores.Unbounded)
-stores_lines (stores.Short n) slots = none (ascii "STORES") (stores_numbers.number_of (stores.Short n))
-stores_lines stores.Full slots = none (ascii "STORES") (stores_numbers.number_of stores.Full)
+abbrev pub stores_lines : Result ℕ Refusal → (slots : List ℕ) → List ℕ
+stores_lines (Ok n) slots = number_line (ascii "STORES") n ++ lines store_line (take n slots)
+stores_lines (Err e) slots = none (ascii "STORES") (number e)
 
 -- ── JOB: a refused job's number, and nothing else ──
 abbrev pub job_line : (number : ℕ) → List ℕ

@@ -4,16 +4,11 @@ use mathlib.Core.Bool.{Bool, true, false, ◌&&◌}
 use Prim.Native.Nat.{ℕ, suc, ◌+◌, ◌-◌, ◌≤◌, ◌<◌}
 use native.Mathlib.Omega.{arith}
 use lib.Dec.{leb, ltb}
-use borrow.Author.Tests.{lt-ltb, le-ltb, le-leb, lt-leb, eq-eqb, ne_eqb}
+use borrow.Author.Tests.{lt-ltb, le-ltb, le-leb, lt-leb}
 use Rattle.mos6502.specs.declared.Decoded.{Decoded}
 use Rattle.mos6502.specs.Class.{length_of}
-use Rattle.image.specs.declared.Address.{Address}
-use Rattle.image.specs.declared.Address.TheVariants.{Nowhere}
-use Rattle.cause.specs.declared.RefusalCause.TheVariants.{IllegalOpcode, OperandOffEnd}
-use Rattle.site.specs.declared.Causes.{Causes}
-use Rattle.site.specs.declared.Causes.TheVariants.{One}
-use Rattle.site.specs.declared.Site.{Site}
-use Rattle.site.specs.Site.{whole_at, operand_at, next_at, target_of, pointer_cause, flow_cause, also, site_at}
+use Rattle.std.specs.Prelude.{Option}
+use Rattle.site.specs.Site.{whole_at, operand_at, next_at, broken_site, whole_site, site_at}
 
 -- ── an instruction's bytes ──
 undefined : (last a n : ℕ) → n ≡ 0 → whole_at last a n ≡ false
@@ -31,24 +26,15 @@ all_inside_lem last a n p q = rw (lt-ltb 0 n p, le-leb (a + n) (suc last) q)
 
 module _ (class : ℕ → Decoded) (byte : ℕ → ℕ) (last : ℕ) (inside : ℕ → Bool) (a : ℕ) {op n : ℕ} {d : Decoded}
     (opcode : op ≡ byte a) (decoded : d ≡ class op) (length : n ≡ length_of d.mode) where
-  -- a site that is not whole, as the code makes it
-  abbrev pub broken : Causes → Site
-  broken causes =
-      record { opcode = op; mode = d.mode; flow = d.flow; len = n; whole = false; operand = 0; next = Nowhere; target = Nowhere; causes = causes }
-
-  pub site_undefined : n ≡ 0 → broken (One IllegalOpcode) ≡ site_at class byte last inside a
+  pub site_undefined : n ≡ 0 → broken_site op d ≡ site_at class byte last inside a
   unfolding site_at
-  site_undefined e = rw (← opcode, ← decoded, ← length, undefined last a n e, eq-eqb n 0 e)
+  site_undefined e = rw (← opcode, ← decoded, ← length, undefined last a n e)
 
-  pub site_cut : ¬ (n ≡ 0) → last < a + n - 1 → broken (One OperandOffEnd) ≡ site_at class byte last inside a
+  pub site_cut : last < a + n - 1 → broken_site op d ≡ site_at class byte last inside a
   unfolding site_at
-  site_cut e h = rw (← opcode, ← decoded, ← length, past_last last a n h, ne_eqb n 0 e)
+  site_cut h = rw (← opcode, ← decoded, ← length, past_last last a n h)
 
-  pub site_whole : {w : ℕ} {next target : Address} {pointer flow causes : Causes} → ¬ (n ≡ 0) → a + n ≤ suc last
-      → w ≡ operand_at byte a n → next ≡ next_at inside a n → target ≡ target_of d.flow w next
-      → pointer ≡ pointer_cause d.mode → flow ≡ flow_cause d.flow op next → causes ≡ also pointer flow
-      → record { opcode = op; mode = d.mode; flow = d.flow; len = n; whole = true; operand = w; next = next; target = target; causes = causes }
-      ≡ site_at class byte last inside a
+  pub site_whole : {w : ℕ} {next : Option ℕ} → ¬ (n ≡ 0) → a + n ≤ suc last → w ≡ operand_at byte a n → next ≡ next_at inside a n
+      → whole_site op w next d ≡ site_at class byte last inside a
   unfolding site_at
-  site_whole e h ow on ot op' of oc =
-      rw (← opcode, ← decoded, ← length, all_inside_lem last a n (omega arith) h, ← ow, ← on, ← ot, ← op', ← of, ← oc)
+  site_whole e h ow on = rw (← opcode, ← decoded, ← length, all_inside_lem last a n (omega arith) h, ← ow, ← on)

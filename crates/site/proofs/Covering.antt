@@ -6,6 +6,7 @@ use mathlib.Core.Bool.{Bool, true, false, cond, ◌&&◌}
 use Prim.Native.Nat.{ℕ, ◌≤◌, ◌<◌, min, max}
 use native.Mathlib.Omega.{arith}
 use lib.Dec.{T, eqb, leb, leb→le, le→leb, eqb→eq}
+use Rattle.std.specs.Prelude.{Option, Some, None}
 use Rattle.lists.proofs.Tests.{pass, passed, and_left, and_right, and_both, eq→eqb}
 use Rattle.image.specs.Image.{inside, stopped_sum}
 use Rattle.image.proofs.Inside.{inside_yes, inside_bounds}
@@ -14,14 +15,13 @@ use Rattle.site.specs.declared.Width.TheVariants.{Nothing, Base, Page}
 use Rattle.site.specs.declared.Reading.{Reading}
 use Rattle.site.specs.declared.Reading.TheVariants.{Plain, Guarded}
 use Rattle.site.specs.declared.Run.{Run}
-use Rattle.site.specs.declared.Run.TheVariants.{From, Empty}
 use Rattle.site.specs.declared.Site.{Site}
 use Rattle.site.specs.Named.{width_of, names_by, names, run_by, run_of}
 
--- the run is just long enough for P: its ends are in P, and all of P is between them; an empty run says that P is empty
-abbrev pub Bounding : (P : ℕ → Type 0) → Run → Type 0
-Bounding P (From low high) = P low × P high × ((x : ℕ) → P x → (low ≤ x) × (x ≤ high))
-Bounding P Empty = (x : ℕ) → ¬ P x
+-- the run is just long enough for P: its ends are in P, and all of P is between them; no run says that P is empty
+abbrev pub Bounding : (P : ℕ → Type 0) → Option Run → Type 0
+Bounding P (Some r) = P r.low × P r.high × ((x : ℕ) → P x → (r.low ≤ x) × (x ≤ r.high))
+Bounding P None = (x : ℕ) → ¬ P x
 
 -- ── what the tests stand for ──
 -- the test b passes just where A holds
@@ -63,38 +63,38 @@ tests_named Guarded Page load last base x = both (both (tests_le base x) (tests_
 
 -- ── the run bounds what is named ──
 -- a run that is there only if a test passes
-bounds_if : (P : ℕ → Type 0) (b : Bool) (low high : ℕ) → (T b → Bounding P (From low high)) → (¬ T b → Bounding P Empty)
-    → Bounding P (cond b (From low high) Empty)
-bounds_if P true low high full none = full tt
-bounds_if P false low high full none = none (λ t. t)
+bounds_if : (P : ℕ → Type 0) (b : Bool) (r : Run) → (T b → Bounding P (Some r)) → (¬ T b → Bounding P None) → Bounding P (cond b (Some r) None)
+bounds_if P true r full none = full tt
+bounds_if P false r full none = none (λ t. t)
 
 bounds_named : (reading : Reading) (width : Width) (load last base : ℕ) → last < 65536
     → Bounding (NamedBy reading width load last base) (run_by reading width load last base)
 bounds_named reading Nothing load last base top = λ x k. k
 bounds_named reading Base load last base top =
-    bounds_if _ (inside load last base) base base
+    bounds_if _ (inside load last base) (record { low = base; high = base })
     (λ t. let k = (tests_inside load last base).fact t in (omega arith, omega arith, λ x n. omega arith))
     (λ out x n. out ((tests_inside load last base).test n.0))
 bounds_named Plain Page load last base top =
-    bounds_if _ (inside load last base) base (min (stopped_sum base 255) last)
+    bounds_if _ (inside load last base) (record { low = base; high = min (stopped_sum base 255) last })
     (λ t. let k = (tests_inside load last base).fact t in (omega arith, omega arith, λ x n. omega arith))
     (λ out x n. out ((tests_inside load last base).test n.0.0))
 bounds_named Guarded Page load last base top =
-    bounds_if _ (leb (max base load) (min (stopped_sum base 255) last)) (max base load) (min (stopped_sum base 255) last)
+    bounds_if _ (leb (max base load) (min (stopped_sum base 255) last))
+    (record { low = max base load; high = min (stopped_sum base 255) last })
     (λ t. let k = leb→le (max base load) (min (stopped_sum base 255) last) t in (omega arith, omega arith, λ x n. omega arith))
     (λ out x n. out (le→leb (max base load) (min (stopped_sum base 255) last) (omega arith)))
 
-bounds_tests : {test : ℕ → Bool} {P : ℕ → Type 0} → ((x : ℕ) → Tests (test x) (P x)) → (r : Run) → Bounding P r → Bounding (λ x. T (test x)) r
-bounds_tests same (From low high) k = ((same low).test k.0, (same high).test k.1, λ x n. k.2 x ((same x).fact n))
-bounds_tests same Empty k = λ x n. k x ((same x).fact n)
+bounds_tests : {test : ℕ → Bool} {P : ℕ → Type 0} → ((x : ℕ) → Tests (test x) (P x)) → (r : Option Run) → Bounding P r → Bounding (λ x. T (test x)) r
+bounds_tests same (Some r) k = ((same r.low).test k.0, (same r.high).test k.1, λ x n. k.2 x ((same x).fact n))
+bounds_tests same None k = λ x n. k x ((same x).fact n)
 
 pub run_bounds : (reading : Reading) (width : Width) (load last base : ℕ) → last < 65536
     → Bounding (λ x. T (names_by reading width load last base x)) (run_by reading width load last base)
 run_bounds reading width load last base top =
     bounds_tests (tests_named reading width load last base) (run_by reading width load last base) (bounds_named reading width load last base top)
 
--- the same of a site: one that is not whole names nothing, and has the empty run
-bounds_whole : (whole : Bool) (test : ℕ → Bool) (r : Run) → Bounding (λ x. T (test x)) r → Bounding (λ x. T (whole && test x)) (cond whole r Empty)
+-- the same of a site: one that is not whole names nothing, and has no run
+bounds_whole : (whole : Bool) (test : ℕ → Bool) (r : Option Run) → Bounding (λ x. T (test x)) r → Bounding (λ x. T (whole && test x)) (cond whole r None)
 bounds_whole true test r k = k
 bounds_whole false test r k = λ x t. t
 

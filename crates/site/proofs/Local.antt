@@ -45,4 +45,4 @@ module _ (class : ℕ → Decoded) (byte : ℕ → ℕ) (a : ℕ) where
       stands same ends =
           let some : 0 < size = omega (arith, site_len, site_size class byte last inside a whole) in
           site_whole class byte' last' inside' a (same a (omega arith) (omega arith)) refl refl (omega arith) ends
-          (operand_local byte byte' a size same) refl refl refl refl refl
+          (operand_local byte byte' a size same) refl

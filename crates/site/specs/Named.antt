@@ -1,5 +1,5 @@
 -- Which addresses an absolute operand names, of those inside: the one rule that turns an operand into covered bytes. Assumes nothing.
-use Rattle.std.specs.Prelude.{Bool, false, cond, ◌&&◌, ℕ, min, max, eqb, leb}
+use Rattle.std.specs.Prelude.{Bool, false, cond, ◌&&◌, ℕ, min, max, eqb, leb, Option, Some, None}
 use Rattle.mos6502.specs.declared.Mode.{Mode}
 use Rattle.mos6502.specs.declared.Mode.TheVariants.{Imp, Imm, Zp, ZpX, ZpY, Izx, Izy, Rel, Abs, AbX, AbY, Ind, Illegal}
 use Rattle.image.specs.Image.{inside, stopped_sum}
@@ -8,7 +8,6 @@ use Rattle.site.specs.declared.Width.TheVariants.{Nothing, Base, Page}
 use Rattle.site.specs.declared.Reading.{Reading}
 use Rattle.site.specs.declared.Reading.TheVariants.{Plain, Guarded}
 use Rattle.site.specs.declared.Run.{Run}
-use Rattle.site.specs.declared.Run.TheVariants.{From, Empty}
 use Rattle.site.specs.declared.Site.{Site}
 
 -- an absolute operand names its base; an indexed one the page from its base on; the other modes name no address
@@ -44,18 +43,19 @@ abbrev pub names : Reading → (load last : ℕ) → Site → (x : ℕ) → Bool
 names reading load last s x = s.whole && names_by reading (width_of s.mode) load last s.operand x
 
 -- ── the least and the greatest of the addresses named ──
-abbrev pub base_run : (load last base : ℕ) → Run
-base_run load last base = cond (inside load last base) (From base base) Empty
+abbrev pub base_run : (load last base : ℕ) → Option Run
+base_run load last base = cond (inside load last base) (Some (record { low = base; high = base })) None
 
-abbrev pub page_run : Reading → (load last base : ℕ) → Run
-page_run Plain load last base = cond (inside load last base) (From base (min (stopped_sum base 255) last)) Empty
+abbrev pub page_run : Reading → (load last base : ℕ) → Option Run
+page_run Plain load last base = cond (inside load last base) (Some (record { low = base; high = min (stopped_sum base 255) last })) None
 page_run Guarded load last base =
-    cond (leb (max base load) (min (stopped_sum base 255) last)) (From (max base load) (min (stopped_sum base 255) last)) Empty
+    cond (leb (max base load) (min (stopped_sum base 255) last))
+    (Some (record { low = max base load; high = min (stopped_sum base 255) last })) None
 
-abbrev pub run_by : Reading → Width → (load last base : ℕ) → Run
-run_by reading Nothing load last base = Empty
+abbrev pub run_by : Reading → Width → (load last base : ℕ) → Option Run
+run_by reading Nothing load last base = None
 run_by reading Base load last base = base_run load last base
 run_by reading Page load last base = page_run reading load last base
 
-abbrev pub run_of : Reading → (load last : ℕ) → Site → Run
-run_of reading load last s = cond s.whole (run_by reading (width_of s.mode) load last s.operand) Empty
+abbrev pub run_of : Reading → (load last : ℕ) → Site → Option Run
+run_of reading load last s = cond s.whole (run_by reading (width_of s.mode) load last s.operand) None

@@ -1,15 +1,13 @@
 -- What stands at one address: the instruction, whether all its bytes are inside, its next address, its target and its causes of refusal.
 -- The instruction set is a function, `class`. The memory is three things: the byte at an address, the last address that holds one, and the test `inside`.
 -- Assumes nothing.
-use Rattle.std.specs.Prelude.{Bool, true, false, cond, ◌&&◌, List, [], ◌∷◌, ℕ, suc, ◌+◌, ◌*◌, ◌%◌, eqb, leb, ltb}
+use Rattle.std.specs.Prelude.{Bool, true, false, cond, ◌&&◌, List, [], ◌∷◌, ℕ, suc, ◌+◌, ◌*◌, ◌%◌, eqb, leb, ltb, Option, Some, None}
 use Rattle.mos6502.specs.declared.Mode.{Mode}
 use Rattle.mos6502.specs.declared.Mode.TheVariants.{Imp, Imm, Zp, ZpX, ZpY, Izx, Izy, Rel, Abs, AbX, AbY, Ind, Illegal}
 use Rattle.mos6502.specs.declared.Flow.{Flow}
 use Rattle.mos6502.specs.declared.Flow.TheVariants.{Next, Jump, Call, Branch, Stop, Refuse}
 use Rattle.mos6502.specs.declared.Decoded.{Decoded}
 use Rattle.mos6502.specs.Class.{length_of}
-use Rattle.image.specs.declared.Address.{Address}
-use Rattle.image.specs.declared.Address.TheVariants.{At, Nowhere}
 use Rattle.image.specs.Image.{inside, byte_at, branch_target}
 use Rattle.cause.specs.declared.RefusalCause.{RefusalCause}
 use Rattle.cause.specs.declared.RefusalCause.TheVariants.{IllegalOpcode, Brk, JmpIndirect, IndirectIndexedY, IndirectIndexedX, OperandOffEnd, RanOffEnd}
@@ -28,22 +26,22 @@ operand_at byte a n = cond (eqb n 2) (byte (a + 1)) (cond (eqb n 3) (byte (a + 1
 
 -- ── where control goes on ──
 -- the next address, if it is inside
-abbrev pub next_at : (inside : ℕ → Bool) (a n : ℕ) → Address
-next_at inside a n = cond (inside (a + n)) (At (a + n)) Nowhere
+abbrev pub next_at : (inside : ℕ → Bool) (a n : ℕ) → Option ℕ
+next_at inside a n = cond (inside (a + n)) (Some (a + n)) None
 
 -- a branch's offset is its operand, one byte
-abbrev pub branch_from : (next : Address) → (operand : ℕ) → Address
-branch_from (At next) operand = At (branch_target next (operand % 256))
-branch_from Nowhere operand = Nowhere
+abbrev pub branch_from : (next : Option ℕ) → (operand : ℕ) → Option ℕ
+branch_from (Some next) operand = Some (branch_target next (operand % 256))
+branch_from None operand = None
 
 -- the target: of JMP and JSR the word, of a branch the next address plus the signed offset, modulo 65,536
-abbrev pub target_of : Flow → (operand : ℕ) → (next : Address) → Address
-target_of Jump operand next = At operand
-target_of Call operand next = At operand
+abbrev pub target_of : Flow → (operand : ℕ) → (next : Option ℕ) → Option ℕ
+target_of Jump operand next = Some operand
+target_of Call operand next = Some operand
 target_of Branch operand next = branch_from next operand
-target_of Next operand next = Nowhere
-target_of Stop operand next = Nowhere
-target_of Refuse operand next = Nowhere
+target_of Next operand next = None
+target_of Stop operand next = None
+target_of Refuse operand next = None
 
 -- ── causes ──
 abbrev pub list_of : Causes → List RefusalCause
@@ -68,12 +66,12 @@ pointer_cause Ind = Clear
 pointer_cause Illegal = Clear
 
 -- a call, a branch or a plain instruction needs a next address
-abbrev pub ran_off : (next : Address) → Causes
-ran_off (At next) = Clear
-ran_off Nowhere = One RanOffEnd
+abbrev pub ran_off : (next : Option ℕ) → Causes
+ran_off (Some next) = Clear
+ran_off None = One RanOffEnd
 
 -- RTS, RTI and JMP may end on last; of those that refuse, opcode 0 is BRK, and the others are indirect jumps
-abbrev pub flow_cause : Flow → (opcode : ℕ) → (next : Address) → Causes
+abbrev pub flow_cause : Flow → (opcode : ℕ) → (next : Option ℕ) → Causes
 flow_cause Stop opcode next = Clear
 flow_cause Jump opcode next = Clear
 flow_cause Refuse opcode next = One (cond (eqb opcode 0) Brk JmpIndirect)
@@ -100,12 +98,12 @@ broken_site opcode d =
       len = length_of d.mode;
       whole = false;
       operand = 0;
-      next = Nowhere;
-      target = Nowhere;
+      next = None;
+      target = None;
       causes = One (cond (eqb (length_of d.mode) 0) IllegalOpcode OperandOffEnd);
     }
 
-abbrev pub whole_site : (opcode operand : ℕ) (next : Address) → Decoded → Site
+abbrev pub whole_site : (opcode operand : ℕ) (next : Option ℕ) → Decoded → Site
 whole_site opcode operand next d =
     record {
       opcode = opcode;

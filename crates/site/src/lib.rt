@@ -2,15 +2,15 @@
 
 #![tactic(auto)]
 
-ghost use Rattle.std.specs.Prelude.{◌≡◌, ◌+◌, ◌≤◌, ◌<◌, length};
+ghost use Rattle.std.specs.Prelude.{◌≡◌, suc, ◌+◌, ◌≤◌};
 ghost use Rattle.mos6502.specs.Class.{manual_class};
-ghost use Rattle.image.specs.Image.{Lies, byte_at};
-ghost use Rattle.site.specs.Site.{operand_at, target_of, pointer_cause, ran_off, flow_cause, also, site_in};
+ghost use Rattle.image.specs.Image.{byte_at};
+ghost use Rattle.site.specs.Site.{operand_at, target_of, pointer_cause, ran_off, flow_cause, also, broken_site, whole_site, site_in};
 ghost use Rattle.site.specs.Named.{width_of, base_run, page_run, run_of};
 
 use cause::RefusalCause;
-use image::{Address, Bounds};
-use mos6502::{Flow, Mode};
+use image::{Bounds, Image};
+use mos6502::{Decoded, Flow, Mode};
 
 // The causes of a site in cause order. A refused site is one that has any.
 #[derive(Clone, Copy)]
@@ -32,8 +32,8 @@ pub struct Site {
     // What follows the opcode; 0 where nothing does, and where the instruction is not whole.
     pub operand: u16,
     // Where control goes on, and where else; nowhere where the instruction is not whole.
-    pub next: Address,
-    pub target: Address,
+    pub next: Option<u16>,
+    pub target: Option<u16>,
     pub causes: Causes,
 }
 
@@ -54,42 +54,35 @@ pub enum Width {
 
 // The least and the greatest of some addresses.
 #[derive(Clone, Copy)]
-pub enum Run {
-    From(u16, u16),
-    Empty,
+pub struct Run {
+    pub low: u16,
+    pub high: u16,
 }
 
 // How far a run-time index can carry an access past its base.
 const INDEX_SLACK: u16 = 0xFF;
 
-fn operand(image: &[u8], load: u16, a: u16, n: u16) -> u16
-    requires { (load ≤ a) × (a + n ≤ load + length image.now) × (a + n ≤ 65536) }
-    ensures { result ≡ operand_at (byte_at image.now load) a n }
+fn operand(image: Image<'_>, a: u16, n: u16) -> u16
+    requires { (image.bounds.load ≤ a) × (a + n ≤ suc image.bounds.last) }
+    ensures { result ≡ operand_at (byte_at image.entry.bytes.now image.entry.bounds.load) a n }
 {
-    if n == 2 {
-        return image::byte(image, load, a + 1) as u16;
+    match n {
+        2 => u16::from(image.byte(a + 1)),
+        3 => image.word(a + 1),
+        _ => 0,
     }
-    if n == 3 {
-        return image::word(image, load, a + 1);
-    }
-    0
 }
 
-fn target_of(flow: Flow, operand: u16, next: Address) -> Address
+fn target_of(flow: Flow, operand: u16, next: Option<u16>) -> Option<u16>
     ensures { result ≡ target_of flow operand next }
 {
     match flow {
-        Flow::Jump => Address::At(operand),
-        Flow::Call => Address::At(operand),
+        Flow::Jump | Flow::Call => Some(operand),
         Flow::Branch => {
-            let Address::At(n) = next else {
-                return Address::Nowhere;
-            };
-            Address::At(image::branch_target(n, (operand % 256) as u8))
+            let n = next?;
+            Some(image::branch_target(n, (operand % 256) as u8))
         }
-        Flow::Next => Address::Nowhere,
-        Flow::Stop => Address::Nowhere,
-        Flow::Refuse => Address::Nowhere,
+        Flow::Next | Flow::Stop | Flow::Refuse => None,
     }
 }
 
@@ -100,46 +93,32 @@ fn pointer_cause(mode: Mode) -> Causes
     match mode {
         Mode::Izy => Causes::One(RefusalCause::IndirectIndexedY),
         Mode::Izx => Causes::One(RefusalCause::IndirectIndexedX),
-        Mode::Imp => Causes::Clear,
-        Mode::Imm => Causes::Clear,
-        Mode::Zp => Causes::Clear,
-        Mode::ZpX => Causes::Clear,
-        Mode::ZpY => Causes::Clear,
-        Mode::Rel => Causes::Clear,
-        Mode::Abs => Causes::Clear,
-        Mode::AbX => Causes::Clear,
-        Mode::AbY => Causes::Clear,
-        Mode::Ind => Causes::Clear,
-        Mode::Illegal => Causes::Clear,
+        _ => Causes::Clear,
     }
 }
 
 // A next address that does not exist is a cause at once.
-fn ran_off(next: Address) -> Causes
+fn ran_off(next: Option<u16>) -> Causes
     ensures { result ≡ ran_off next }
 {
-    let Address::At(_) = next else {
+    let Some(_) = next else {
         return Causes::One(RefusalCause::RanOffEnd);
     };
     Causes::Clear
 }
 
 // The cause that the flow gives.
-fn flow_cause(flow: Flow, opcode: u8, next: Address) -> Causes
+fn flow_cause(flow: Flow, opcode: u8, next: Option<u16>) -> Causes
     ensures { result ≡ flow_cause flow opcode next }
 {
     match flow {
-        Flow::Stop => Causes::Clear,
-        Flow::Jump => Causes::Clear,
-        Flow::Refuse => {
-            if opcode == 0 {
-                return Causes::One(RefusalCause::Brk);
-            }
-            Causes::One(RefusalCause::JmpIndirect)
-        }
-        Flow::Next => ran_off(next),
-        Flow::Call => ran_off(next),
-        Flow::Branch => ran_off(next),
+        Flow::Stop | Flow::Jump => Causes::Clear,
+        Flow::Refuse => Causes::One(if opcode == 0 {
+            RefusalCause::Brk
+        } else {
+            RefusalCause::JmpIndirect
+        }),
+        Flow::Next | Flow::Call | Flow::Branch => ran_off(next),
     }
 }
 
@@ -158,59 +137,60 @@ fn also(first: Causes, then: Causes) -> Causes
     }
 }
 
-// What stands at an address inside.
-pub fn site_at(image: &[u8], bounds: Bounds, a: u16) -> Site
-    requires { Lies image.now bounds.load bounds.last × (bounds.load ≤ a) × (a ≤ bounds.last) }
-    ensures { result ≡ site_in manual_class image.now bounds.load bounds.last a }
+// The site of an instruction that is undefined, or whose operand bytes are past the image's end.
+fn broken_site(opcode: u8, decoded: Decoded) -> Site
+    ensures { result ≡ broken_site opcode decoded }
 {
-    let load = bounds.load;
-    let last = bounds.last;
-    let opcode = image::byte(image, load, a);
-    let decoded = mos6502::decode(opcode);
-    let mode = decoded.mode;
-    let flow = decoded.flow;
-    let len = mode.len();
-    if len == 0 {
-        return Site {
-            opcode,
-            mode,
-            flow,
-            len,
-            whole: false,
-            operand: 0,
-            next: Address::Nowhere,
-            target: Address::Nowhere,
-            causes: Causes::One(RefusalCause::IllegalOpcode),
-        };
+    let len = decoded.mode.len();
+    Site {
+        opcode,
+        mode: decoded.mode,
+        flow: decoded.flow,
+        len,
+        whole: false,
+        operand: 0,
+        next: None,
+        target: None,
+        causes: Causes::One(if len == 0 {
+            RefusalCause::IllegalOpcode
+        } else {
+            RefusalCause::OperandOffEnd
+        }),
     }
-    if last - a < len - 1 {
-        return Site {
-            opcode,
-            mode,
-            flow,
-            len,
-            whole: false,
-            operand: 0,
-            next: Address::Nowhere,
-            target: Address::Nowhere,
-            causes: Causes::One(RefusalCause::OperandOffEnd),
-        };
-    }
-    let operand = operand(image, load, a, len);
-    let next = bounds.next(a, len);
-    let target = target_of(flow, operand, next);
-    let causes = also(pointer_cause(mode), flow_cause(flow, opcode, next));
+}
+
+// The site of an instruction whose bytes are all inside.
+fn whole_site(opcode: u8, operand: u16, next: Option<u16>, decoded: Decoded) -> Site
+    ensures { result ≡ whole_site opcode operand next decoded }
+{
+    let Decoded { mode, flow } = decoded;
     Site {
         opcode,
         mode,
         flow,
-        len,
+        len: mode.len(),
         whole: true,
         operand,
         next,
-        target,
-        causes,
+        target: target_of(flow, operand, next),
+        causes: also(pointer_cause(mode), flow_cause(flow, opcode, next)),
     }
+}
+
+// What stands at an address inside.
+pub fn site_at(image: Image<'_>, a: u16) -> Site
+    requires { (image.bounds.load ≤ a) × (a ≤ image.bounds.last) }
+    ensures { result ≡ site_in manual_class image.entry.bytes.now image.entry.bounds.load image.entry.bounds.last a }
+{
+    let opcode = image.byte(a);
+    let decoded = mos6502::decode(opcode);
+    let len = decoded.mode.len();
+    if len == 0 || image.bounds.last - a < len - 1 {
+        return broken_site(opcode, decoded);
+    }
+    let operand = operand(image, a, len);
+    let next = image.bounds.next(a, len);
+    whole_site(opcode, operand, next, decoded)
 }
 
 // How much the operand of a mode names.
@@ -219,70 +199,59 @@ pub fn width_of(mode: Mode) -> Width
 {
     match mode {
         Mode::Abs => Width::Base,
-        Mode::AbX => Width::Page,
-        Mode::AbY => Width::Page,
-        Mode::Imp => Width::Nothing,
-        Mode::Imm => Width::Nothing,
-        Mode::Zp => Width::Nothing,
-        Mode::ZpX => Width::Nothing,
-        Mode::ZpY => Width::Nothing,
-        Mode::Izx => Width::Nothing,
-        Mode::Izy => Width::Nothing,
-        Mode::Rel => Width::Nothing,
-        Mode::Ind => Width::Nothing,
-        Mode::Illegal => Width::Nothing,
+        Mode::AbX | Mode::AbY => Width::Page,
+        _ => Width::Nothing,
     }
 }
 
 // An operand that is not indexed names its base.
-fn base_run(bounds: Bounds, base: u16) -> Run
+fn base_run(bounds: Bounds, base: u16) -> Option<Run>
     ensures { result ≡ base_run bounds.load bounds.last base }
 {
     if bounds.inside(base) {
-        Run::From(base, base)
+        Some(Run {
+            low: base,
+            high: base,
+        })
     } else {
-        Run::Empty
+        None
     }
 }
 
 // An indexed operand names the page from its base on, by the reading's rule.
-fn page_run(bounds: Bounds, base: u16, reading: Reading) -> Run
+fn page_run(bounds: Bounds, base: u16, reading: Reading) -> Option<Run>
     ensures { result ≡ page_run reading bounds.load bounds.last base }
 {
-    let last = bounds.last;
-    let high = image::min(image::saturating_add(base, INDEX_SLACK), last);
+    let high = base.saturating_add(INDEX_SLACK).min(bounds.last);
     match reading {
         Reading::Plain => {
             if bounds.inside(base) {
-                return Run::From(base, high);
+                Some(Run { low: base, high })
+            } else {
+                None
             }
-            Run::Empty
         }
         Reading::Guarded => {
-            let load = bounds.load;
-            let low = image::max(base, load);
+            let low = base.max(bounds.load);
             if low <= high {
-                return Run::From(low, high);
+                Some(Run { low, high })
+            } else {
+                None
             }
-            Run::Empty
         }
     }
 }
 
 // The least and the greatest of the addresses inside that the site's operand names.
-pub fn named(s: Site, bounds: Bounds, reading: Reading) -> Run
+pub fn named(s: Site, bounds: Bounds, reading: Reading) -> Option<Run>
     ensures { result ≡ run_of reading bounds.load bounds.last s }
 {
-    let whole = s.whole;
-    if whole {
-        let mode = s.mode;
-        let base = s.operand;
-        match width_of(mode) {
-            Width::Nothing => Run::Empty,
-            Width::Base => base_run(bounds, base),
-            Width::Page => page_run(bounds, base, reading),
-        }
-    } else {
-        Run::Empty
+    if !s.whole {
+        return None;
+    }
+    match width_of(s.mode) {
+        Width::Nothing => None,
+        Width::Base => base_run(bounds, s.operand),
+        Width::Page => page_run(bounds, s.operand, reading),
     }
 }

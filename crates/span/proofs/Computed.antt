@@ -3,10 +3,13 @@ use mathlib.Core.Path.{◌≡◌, refl}
 use mathlib.Core.Bool.{Bool, true, false, cond}
 use mathlib.Core.List.{List}
 use Prim.Native.Nat.{ℕ}
+use Rattle.std.proofs.Common.{Result, Err}
+use Rattle.refusal.specs.declared.Refusal.{Refusal}
+use Rattle.refusal.specs.declared.Refusal.TheVariants.{Refused}
 use Rattle.lists.proofs.Tests.{pass, passed, clash}
 use Rattle.mos6502.specs.declared.Decoded.{Decoded}
+use Rattle.image.specs.declared.Bounds.{Bounds}
 use Rattle.image.specs.Image.{last}
-use Rattle.opening.specs.declared.Opening.{Opening}
 use Rattle.opening.specs.Opening.{Ready, all_inside}
 use Rattle.opening.proofs.First.{Opens, ready, image_empty, no_entries, past_top, opens, all_inside_mem, mem_all_inside}
 use Rattle.site.specs.declared.Reading.{Reading}
@@ -16,7 +19,6 @@ use Rattle.walk.specs.declared.Rule.TheVariants.{Span as SpanRule}
 use Rattle.walk.specs.Walked.{Walk}
 use Rattle.walk.specs.Possible.{EntriesInside}
 use Rattle.walk.proofs.Possible.{refused≢finished, spent≢finished}
-use Rattle.span.specs.declared.SpanAnswer.TheVariants.{Refused}
 use Rattle.span.specs.Given.{Answers}
 use Rattle.span.specs.Computed.{answer_of, answer_after, turns_of, span_from, span_after}
 use Rattle.span.proofs.Verdict.{unfinished, entry_outside, finishes}
@@ -45,12 +47,12 @@ module _ (class : ℕ → Decoded) (reading : Reading) (image : List ℕ) (load 
       by_turn r i (turns s) q d = absurd d
 
       by_entries : Ready image load entries → (b : Bool) → all_inside load (last image load) entries ≡ b
-          → Answers class image load entries reading (cond b (answer_after class reading image load entries (turns_of class reading image load entries n)) Refused)
+          → Answers class image load entries reading (cond b (answer_after class reading image load entries (turns_of class reading image load entries n)) (Err Refused))
       by_entries r true e = by_turn r (all_inside_mem load (last image load) entries (passed e)) (turns_of class reading image load entries n) refl d
       by_entries r false e =
           entry_outside class image load entries r reading (λ i. clash (pass _ (mem_all_inside load (last image load) entries i)) e)
 
-      by : {o : Opening} → Opens image load entries o → Answers class image load entries reading (span_from class reading image load entries o n)
+      by : {o : Result Bounds Refusal} → Opens image load entries o → Answers class image load entries reading (span_from class reading image load entries o n)
       by (image_empty e) = e
       by (no_entries s e) = (s, e)
       by (past_top s e t) = (s, e, t)

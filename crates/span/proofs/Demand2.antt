@@ -3,34 +3,39 @@
 use mathlib.Core.Path.{◌≡◌, refl}
 use mathlib.Core.Logic.{◌↔◌}
 use mathlib.Core.List.{List}
-use Prim.Native.Nat.{ℕ}
+use Prim.Native.Nat.{ℕ, ◌<◌}
 use native.Mathlib.Omega.{arith}
+use Rattle.std.proofs.Common.{Result}
+use Rattle.refusal.specs.declared.Refusal.{Refusal}
+use Rattle.refusal.specs.declared.Refusal.TheVariants.{ImageEmpty, NoEntries, PastTop, Refused, Unbounded, Short, Full}
+use Rattle.refusal.specs.Numbers.{number, number_of}
 use Rattle.mos6502.specs.declared.Decoded.{Decoded}
+use Rattle.opening.proofs.First.{ready, opens_unique}
 use Rattle.site.specs.declared.Reading.{Reading}
 use Rattle.walk.specs.declared.Rule.TheVariants.{Span as SpanRule}
 use Rattle.walk.specs.Possible.{Possible}
-use Rattle.walk.proofs.Possible.{not_full}
-use Rattle.span.specs.declared.SpanAnswer.{SpanAnswer}
-use Rattle.span.specs.declared.SpanAnswer.TheVariants.{Given, ImageEmpty, NoEntries, PastTop, Refused, Full}
-use Rattle.span.specs.Answers.{number_of}
+use Rattle.span.specs.declared.Span.{Span}
 use Rattle.span.specs.Given.{Answers}
+use Rattle.span.proofs.Cases.{Says, given, refused, early, says}
+
+-- 0 is no refusal's number
+number_some : (why : Refusal) → 0 < number why
+number_some ImageEmpty = omega arith
+number_some NoEntries = omega arith
+number_some PastTop = omega arith
+number_some Refused = omega arith
+number_some Unbounded = omega arith
+number_some (Short needed) = omega arith
+number_some Full = omega arith
 
 module _ (class : ℕ → Decoded) (image : List ℕ) (load : ℕ) (entries : List ℕ) (reading : Reading) where
-  given_possible : (r : SpanAnswer) → Answers class image load entries reading r → number_of r ≡ 0 → (l : List ℕ) × Possible class SpanRule image load entries l
-  given_possible (Given s) p e = (p.list, p.possible)
-  given_possible ImageEmpty p e = absurd (omega arith)
-  given_possible NoEntries p e = absurd (omega arith)
-  given_possible PastTop p e = absurd (omega arith)
-  given_possible Refused p e = absurd (omega arith)
-  given_possible Full p e = absurd (omega arith)
+  by_case : {r : Result Span Refusal} → Says class image load entries reading r → (number_of r ≡ 0) ↔ ((l : List ℕ) × Possible class SpanRule image load entries l)
+  by_case (given g) = (λ e. (g.list, g.possible), λ d. refl)
+  by_case (refused r none) = (λ e. absurd (omega arith), λ d. absurd (none d))
+  by_case (early {why} o) = (
+    λ e. absurd (omega (arith, number_some why)),
+    λ d. let same = opens_unique image load entries (ready d.1.ready) o in cc,
+  )
 
-  possible_given : (r : SpanAnswer) → Answers class image load entries reading r → (l : List ℕ) × Possible class SpanRule image load entries l → number_of r ≡ 0
-  possible_given (Given s) p d = refl
-  possible_given ImageEmpty p d = absurd (omega (arith, d.1.ready))
-  possible_given NoEntries p d = absurd (omega (arith, d.1.ready))
-  possible_given PastTop p d = absurd (omega (arith, d.1.ready))
-  possible_given Refused p d = absurd (p.1 d)
-  possible_given Full p d = absurd (not_full class SpanRule image load entries p.1)
-
-  pub demand_2 : (r : SpanAnswer) → Answers class image load entries reading r → (number_of r ≡ 0) ↔ ((l : List ℕ) × Possible class SpanRule image load entries l)
-  demand_2 r p = (given_possible r p, possible_given r p)
+  pub demand_2 : (r : Result Span Refusal) → Answers class image load entries reading r → (number_of r ≡ 0) ↔ ((l : List ℕ) × Possible class SpanRule image load entries l)
+  demand_2 r p = by_case (says class image load entries reading r p)

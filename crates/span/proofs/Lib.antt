@@ -1,4 +1,5 @@
 -- The theorems on spans.
+pub mod Cases
 pub mod Unique
 pub mod Demand2
 pub mod Verdict

@@ -13,7 +13,8 @@ use Rattle.walk.specs.declared.Rule.TheVariants as rule
 use Rattle.walk.specs.Walked.{Walk, ordered}
 use Rattle.walk.specs.Possible.{EntriesInside}
 use Rattle.walk.proofs.Possible.{refused≢finished, spent≢finished, not_full, unfinished, finishes, in_order}
-use Rattle.stores.specs.declared.StoresAnswer.TheVariants.{Answered, Unbounded}
+use Rattle.std.specs.Prelude.{Ok, Err}
+use Rattle.refusal.specs.declared.Refusal.TheVariants.{Unbounded}
 use Rattle.stores.specs.Answers.{Reaches, is_unbounded, records_in, Answers}
 use Rattle.stores.specs.Computed.{answer_of, records_from}
 
@@ -25,7 +26,7 @@ module _ (class : ℕ → Decoded) (writes : ℕ → Wr) (image : List ℕ) (loa
   by_bound : (l : List ℕ) → Reaches class writes image load entries l → (b : Bool) → is_unbounded class writes image load entries l ≡ b → (slots : List ℕ)
       → length (records b l) ≤ length slots
       → Answers class writes image load entries slots (records b l ++ drop (length (records b l)) slots)
-      (cond b Unbounded (Answered (length (records_in class writes image load entries l))))
+      (cond b (Err Unbounded) (Ok (length (records_in class writes image load entries l))))
   by_bound l r true e slots h = (l, r, e, refl)
   by_bound l r false e slots h = (l, r, e, refl, h, refl)
 

@@ -4,7 +4,10 @@ use mathlib.Core.Path.{◌≡◌, ap, ◌∙◌}
 use mathlib.Core.Logic.{◌↔◌}
 use mathlib.Core.Bool.{false}
 use mathlib.Core.List.{List}
-use mathlib.Core.Option.{none, some}
+use Rattle.std.specs.Prelude.{Some, None, Result, Ok, Err}
+use Rattle.refusal.specs.declared.Refusal.{Refusal}
+use Rattle.refusal.specs.declared.Refusal.TheVariants.{ImageEmpty, NoEntries, PastTop, Refused, Unbounded, Short, Full}
+use Rattle.refusal.specs.Numbers.{number_of}
 use Prim.Native.Nat.{ℕ, ◌≤◌}
 use native.Mathlib.Omega.{arith}
 use lib.ListN.{length}
@@ -13,9 +16,7 @@ use Rattle.mos6502.specs.declared.Decoded.{Decoded}
 use Rattle.writes.specs.declared.Wr.{Wr}
 use Rattle.opening.specs.Opening.{Ready}
 use Rattle.opening.proofs.First.{ready, opens, opens_unique}
-use Rattle.stores.specs.declared.StoresAnswer.{StoresAnswer}
-use Rattle.stores.specs.declared.StoresAnswer.TheVariants.{Answered, ImageEmpty, NoEntries, PastTop, Refused, Unbounded, Short, Full}
-use Rattle.stores.specs.Answers.{number_of, Reaches, is_unbounded, records_in, Answers}
+use Rattle.stores.specs.Answers.{Reaches, is_unbounded, records_in, Answers}
 use Rattle.stores.proofs.Unique.{answer_is}
 
 module _ (class : ℕ → Decoded) (writes : ℕ → Wr) (image : List ℕ) (load : ℕ) (entries : List ℕ) (slots slots' : List ℕ) where
@@ -25,40 +26,40 @@ module _ (class : ℕ → Decoded) (writes : ℕ → Wr) (image : List ℕ) (loa
       (l : List ℕ) × Reaches class writes image load entries l × (is_unbounded class writes image load entries l ≡ false)
       × (length (records_in class writes image load entries l) ≤ length slots)
 
-  answered_fits : (r : StoresAnswer) → Answers class writes image load entries slots slots' r → number_of r ≡ 0 → Fits
-  answered_fits (Answered n) p e = (p.0, p.1, p.2, rw p.3 at p.4)
-  answered_fits ImageEmpty p e = absurd (omega arith)
-  answered_fits NoEntries p e = absurd (omega arith)
-  answered_fits PastTop p e = absurd (omega arith)
-  answered_fits Refused p e = absurd (omega arith)
-  answered_fits Unbounded p e = absurd (omega arith)
-  answered_fits (Short n) p e = absurd (omega arith)
-  answered_fits Full p e = absurd (omega arith)
+  answered_fits : (r : Result ℕ Refusal) → Answers class writes image load entries slots slots' r → number_of r ≡ 0 → Fits
+  answered_fits (Ok n) p e = (p.0, p.1, p.2, rw p.3 at p.4)
+  answered_fits (Err ImageEmpty) p e = absurd (omega arith)
+  answered_fits (Err NoEntries) p e = absurd (omega arith)
+  answered_fits (Err PastTop) p e = absurd (omega arith)
+  answered_fits (Err Refused) p e = absurd (omega arith)
+  answered_fits (Err Unbounded) p e = absurd (omega arith)
+  answered_fits (Err (Short n)) p e = absurd (omega arith)
+  answered_fits (Err Full) p e = absurd (omega arith)
 
-  fits_answered : (r : StoresAnswer) → Answers class writes image load entries slots slots' r → Fits → number_of r ≡ 0
+  fits_answered : (r : Result ℕ Refusal) → Answers class writes image load entries slots slots' r → Fits → number_of r ≡ 0
   fits_answered r p d =
-      ap number_of (answer_is class writes image load entries slots slots' r p (some d.0) d.1).0
+      ap number_of (answer_is class writes image load entries slots slots' r p (Some d.0) d.1).0
       ∙ rw (opens_unique image load entries (opens image load entries) (ready d.1.ready), d.2, le-ltb _ _ d.3)
 
-  pub answered_iff : (r : StoresAnswer) → Answers class writes image load entries slots slots' r → (number_of r ≡ 0) ↔ Fits
+  pub answered_iff : (r : Result ℕ Refusal) → Answers class writes image load entries slots slots' r → (number_of r ≡ 0) ↔ Fits
   answered_iff r p = (answered_fits r p, fits_answered r p)
 
-  refused_none : (r : StoresAnswer) → Answers class writes image load entries slots slots' r → number_of r ≡ 4
+  refused_none : (r : Result ℕ Refusal) → Answers class writes image load entries slots slots' r → number_of r ≡ 4
       → Ready image load entries × ¬ ((l : List ℕ) × Reaches class writes image load entries l)
-  refused_none Refused p e = (p.0, p.1)
-  refused_none (Answered n) p e = absurd (omega arith)
-  refused_none ImageEmpty p e = absurd (omega arith)
-  refused_none NoEntries p e = absurd (omega arith)
-  refused_none PastTop p e = absurd (omega arith)
-  refused_none Unbounded p e = absurd (omega arith)
-  refused_none (Short n) p e = absurd (omega arith)
-  refused_none Full p e = absurd (omega arith)
+  refused_none (Err Refused) p e = (p.0, p.1)
+  refused_none (Ok n) p e = absurd (omega arith)
+  refused_none (Err ImageEmpty) p e = absurd (omega arith)
+  refused_none (Err NoEntries) p e = absurd (omega arith)
+  refused_none (Err PastTop) p e = absurd (omega arith)
+  refused_none (Err Unbounded) p e = absurd (omega arith)
+  refused_none (Err (Short n)) p e = absurd (omega arith)
+  refused_none (Err Full) p e = absurd (omega arith)
 
-  pub refused_iff : (r : StoresAnswer) → Answers class writes image load entries slots slots' r
+  pub refused_iff : (r : Result ℕ Refusal) → Answers class writes image load entries slots slots' r
       → (number_of r ≡ 4) ↔ (Ready image load entries × ¬ ((l : List ℕ) × Reaches class writes image load entries l))
   refused_iff r p = (
     refused_none r p,
     λ d.
-        ap number_of (answer_is class writes image load entries slots slots' r p none d.1).0
+        ap number_of (answer_is class writes image load entries slots slots' r p None d.1).0
         ∙ rw (opens_unique image load entries (opens image load entries) (ready d.0)),
   )

@@ -1,19 +1,19 @@
--- A loop over the map's members takes their stores one by one: what a search finds begins the list of the members that are left. What is put together of the parts at
+-- A loop over the map's members takes their stores one by one: the member that comes next begins the list of those that are left. What is put together of the parts at
 -- a member is what the definition has it store.
-use mathlib.Core.Path.{◌≡◌, ◌∙◌}
-use mathlib.Core.Bool.{◌||◌}
+use mathlib.Core.Path.{◌≡◌, refl, ◌∙◌}
+use mathlib.Core.Bool.{false, ◌||◌}
+use mathlib.Core.List.Memᴰ.{head as here}
+use mathlib.Core.List.Memᴰ.{tail as there}
 use mathlib.Core.List.{List, [], ◌∷◌, ◌++◌}
-use Prim.Native.Nat.{ℕ, ◌+◌, ◌-◌, ◌%◌, ◌≤◌}
+use Prim.Native.Nat.{ℕ, suc, ◌+◌, ◌-◌, ◌%◌, ◌≤◌}
 use native.Mathlib.Omega.{arith}
 use lib.ListN.{length, take, length-append}
-use Rattle.lists.proofs.Filling.{Filled, filled_part}
+use Rattle.lists.specs.Lists.{◌∈◌, Ascending}
+use Rattle.lists.proofs.Scan.{scan_only}
 use Rattle.mos6502.specs.Class.{manual_class}
 use Rattle.writes.specs.declared.Wr.{Wr}
 use Rattle.writes.specs.Writes.{manual_writes}
-use Rattle.address_set.specs.declared.Found.{Found}
-use Rattle.address_set.specs.declared.Found.TheVariants.{At, Nothing}
-use Rattle.address_set.specs.Next.{Next}
-use Rattle.address_set.proofs.Laws.{next_at, next_nothing}
+use Rattle.address_set.specs.Map.{has, members_in}
 use Rattle.tracker.specs.declared.ImmState.{ImmState}
 use Rattle.tracker.specs.Track.{tracked}
 use Rattle.site.specs.declared.Site.{Site}
@@ -22,10 +22,8 @@ use Rattle.pages.specs.declared.StoreSpan.{StoreSpan}
 use Rattle.pages.specs.declared.StoreSpan.TheVariants as span
 use Rattle.pages.specs.declared.Pointer.{Pointer}
 use Rattle.pages.specs.declared.Habit.{Habit}
-use Rattle.pages.specs.Pages.{pointer_in, habit_of}
-use Rattle.pages.proofs.Members.{members_from, any_next}
+use Rattle.pages.specs.Pages.{any_of, pointer_in, habit_of}
 use Rattle.stores.specs.Stores.{store_of, store_at, is_anywhere, records_of, unbounded, records_over}
-use Rattle.stores.specs.Steps.{Put}
 
 -- ── how many ──
 one_at_most : (s : StoreSpan) → length (records_of s) ≤ 1
@@ -40,23 +38,40 @@ records_few store [] = omega arith
 records_few store (a ∷ l) = omega (arith, length-append (records_of (store a)) (records_over store l), one_at_most (store a), records_few store l)
 
 -- ── one after the other ──
-module _ (store : ℕ → StoreSpan) (map : List ℕ) (from last : ℕ) {found : Found} (next : Next map from last found) where
-  module _ {a : ℕ} {s : StoreSpan} (at_a : found ≡ At a) (stored : s ≡ store a) where
-    pub records_next : records_over store (members_from map last from) ≡ records_of s ++ records_over store (members_from map last (a + 1))
+module _ (store : ℕ → StoreSpan) {l : List ℕ} where
+  module _ {a : ℕ} {rest : List ℕ} {s : StoreSpan} (next : l ≡ a ∷ rest) (stored : s ≡ store a) where
+    pub records_next : records_over store l ≡ records_of s ++ records_over store rest
     unfolding records_over
-    records_next = rw (next_at map from last next at_a, stored)
+    records_next = rw (next, stored)
 
-    pub unbounded_next : unbounded store (members_from map last from) ≡ (is_anywhere s || unbounded store (members_from map last (a + 1)))
-    unbounded_next = any_next map from last next (λ b. is_anywhere (store b)) at_a ∙ rw stored
+    pub unbounded_next : unbounded store l ≡ (is_anywhere s || unbounded store rest)
+    unfolding any_of
+    unbounded_next = rw (next, stored)
 
-  pub records_end : found ≡ Nothing → records_over store (members_from map last from) ≡ []
+  pub records_end : l ≡ [] → records_over store l ≡ []
   unfolding records_over
-  records_end e = rw (next_nothing map from last next e)
+  records_end e = rw e
 
--- the record of a store fills the slot that comes next
-pub filled_put : {all left before slots : List ℕ} {n : ℕ} → Filled all left before slots n → {s : StoreSpan} {r : ℕ} {rest slots' : List ℕ}
-    → left ≡ records_of s ++ rest → Put slots n s r slots' → Filled all rest before slots' r
-filled_put filled {s} next put = rw put.next (filled_part filled (records_of s) next put.after)
+  pub unbounded_end : l ≡ [] → unbounded store l ≡ false
+  unfolding any_of
+  unbounded_end e = rw e
+
+-- ── where the members lie ──
+pub member_within : (load last : ℕ) (map : List ℕ) (b : ℕ) → b ∈ members_in load last map → (load ≤ b) × (b ≤ last)
+member_within load last map b m =
+    let s = scan_only (has map) load (suc last - load) m in
+    (s.low, omega (arith, s.low, s.high))
+
+module _ {l rest : List ℕ} {a : ℕ} (next : l ≡ a ∷ rest) where
+  pub listed : a ∈ l
+  listed = rw next (here refl)
+
+  pub listed_rest : (b : ℕ) → b ∈ rest → b ∈ l
+  listed_rest b m = rw next (there m)
+
+  -- the tracker, which stands no further than a member, stands no further than those after it
+  pub still_ahead : Ascending l → (at load : ℕ) → at ≤ a - load → (b : ℕ) → b ∈ rest → at ≤ b - load
+  still_ahead ascending at load h b m = omega (arith, (rw next at ascending).0 b m)
 
 -- ── at one member ──
 pub store_is : (image : List ℕ) (load last : ℕ) (l : List ℕ) (a : ℕ) {s : Site} {w : Wr} {state : ImmState} {p : Pointer} {h : Habit} {r : StoreSpan}

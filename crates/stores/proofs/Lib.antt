@@ -1,5 +1,4 @@
 -- The theorems on store spans.
-pub mod Surveying
 pub mod Gathering
 pub mod Unique
 pub mod Exact

@@ -2,20 +2,43 @@
 use mathlib.Core.Path.{◌≡◌, refl}
 use mathlib.Core.Bool.{Bool, true, false, cond}
 use mathlib.Core.List.{List, [], ◌∷◌, ◌++◌}
-use Prim.Native.Nat.{ℕ, zero, suc, ◌+◌, ◌/◌, ◌%◌, ◌^◌, ◌≤◌, ◌<◌, zero-le}
+use Prim.Native.Nat.{ℕ, zero, suc, ◌+◌, ◌-◌, ◌/◌, ◌%◌, ◌^◌, ◌≤◌, ◌<◌, zero-le}
 use native.Mathlib.Nat.{div-lt_iff_lt-mul, pow-suc}
 use native.Mathlib.Omega.{arith}
 use lib.Dec.{ltb}
 use lib.ListN.{length, take, drop, set, length-append}
 use lib.Seq.{set_split, drop_at, length-take-le, append_snoc}
 use borrow.Author.Tests.{ltb-false, lt-ltb, le-ltb}
-use Rattle.text.specs.Text.{hex_digit, hex_of, decimal_by}
+use Rattle.text.specs.Text.{hex_digit, digit_at, hex_of, decimal_by}
 
 -- ── how many ──
 pub hex_length : (width n : ℕ) → length (hex_of width n) ≡ width
 unfolding hex_of
 hex_length zero n = refl
 hex_length (suc width) n = simp length-append (omega (arith, hex_length width (n / 16)))
+
+-- no digit, and one digit in front of others
+pub hex_none : (n : ℕ) → hex_of 0 n ≡ []
+unfolding hex_of
+hex_none n = refl
+
+hex_first : (i n : ℕ) → hex_of (suc i) n ≡ hex_digit (digit_at i n) ∷ hex_of i n
+unfolding hex_of digit_at
+hex_first zero n = refl
+hex_first (suc i) n = rw (hex_first i (n / 16))
+
+pub hex_next : (i n : ℕ) → 0 < i → hex_of i n ≡ hex_digit (digit_at (i - 1) n) ∷ hex_of (i - 1) n
+hex_next zero n h = absurd (omega arith)
+hex_next (suc i) n h = let same : suc i - 1 ≡ i = omega arith in rw same (hex_first i n)
+
+-- a digit of what is left, as the digits behind it are taken off
+pub digit_last : (n : ℕ) → digit_at 0 n ≡ n % 16
+unfolding digit_at
+digit_last n = refl
+
+pub digit_next : (i j n : ℕ) → i ≡ suc j → digit_at i n ≡ digit_at j (n / 16)
+unfolding digit_at
+digit_next i j n e = rw e
 
 -- a number of k + 1 digits has k before its last
 pub fewer : (k n : ℕ) → n < 10 ^ suc k → n / 10 < 10 ^ k
@@ -47,11 +70,6 @@ decimal_below (suc most) (suc k) n p h = simp length-append (front (ltb n 10) re
 -- a digit is stored before the others
 pub store_before : (l : List ℕ) (k d : ℕ) → k < length l → drop k (set l k d) ≡ d ∷ drop (suc k) l
 store_before l k d h = rw (set_split l k d h, drop_at (take k l) (d ∷ drop (suc k) l) k (length-take-le k l (omega arith)))
-
--- the number before its last digit stands before what stood after it
-pub hex_step : (width n : ℕ) (text : List ℕ) → hex_of (suc width) n ++ text ≡ hex_of width (n / 16) ++ hex_digit (n % 16) ∷ text
-unfolding hex_of
-hex_step width n text = append_snoc (hex_of width (n / 16)) (hex_digit (n % 16)) text
 
 pub decimal_step : (most n : ℕ) (text : List ℕ) → 10 ≤ n → decimal_by (suc most) n ++ text ≡ decimal_by most (n / 10) ++ (48 + n % 10) ∷ text
 unfolding decimal_by

@@ -1,21 +1,18 @@
-//! Text in a lent buffer: bytes, hexadecimal and decimal numbers, each after what stands there already.
+//! Text in a vector of a fixed capacity: bytes, hexadecimal and decimal numbers, each after what stands there already.
 
 #![tactic(auto)]
 
-ghost use Rattle.std.specs.Prelude.{◌≡◌, ◌+◌, ◌≤◌, ◌<◌, length, drop};
-ghost use Rattle.text.specs.Text.{hex_digit, hex_of, decimal_of, Put};
+ghost use Rattle.std.specs.Prelude.{◌≡◌, ◌++◌, ◌<◌, ◌≤◌, length, drop};
+ghost use Rattle.text.specs.Text.{hex_digit, digit_at, hex_of, decimal_of, Room};
 
-// Puts a text at `n`; where the next one goes.
-pub fn put(out: &mut [u8], n: usize, text: &[u8]) -> usize
-    requires { n + length text.now ≤ length out.old }
-    ensures { Put out.old n text.now result out.new }
+use arrayvec::ArrayVec;
+
+// Appends a text.
+pub fn put<const N: usize>(out: &mut ArrayVec<u8, N>, text: &[u8])
+    requires { Room out.old.items text.now N }
+    ensures { out.new.items ≡ out.old.items ++ text.now }
 {
-    let mut i: usize = 0;
-    while i < text.len() {
-        out[n + i] = text[i];
-        i += 1;
-    }
-    n + i
+    let _ = out.try_extend_from_slice(text);
 }
 
 // A hexadecimal digit in ASCII.
@@ -26,20 +23,25 @@ fn hex_digit(d: u8) -> u8
     if d < 10 { 48 + d } else { 55 + d }
 }
 
-// Puts the last `width` hexadecimal digits of a number.
-pub fn put_hex(out: &mut [u8], n: usize, width: usize, value: u16) -> usize
-    requires { n + width ≤ length out.old }
-    ensures { Put out.old n (hex_of width value) result out.new }
+// The hexadecimal digit of a number with `i` digits behind it.
+fn digit_at(value: u16, i: usize) -> u8
+    ensures { (result ≡ digit_at i value) × (result < 16) }
 {
-    // From the last digit to the first.
-    let mut i = width;
     let mut rest = value;
-    while i > 0 {
-        i -= 1;
-        out[n + i] = hex_digit((rest % 16) as u8);
+    for _ in 0..i {
         rest /= 16;
     }
-    n + width
+    (rest % 16) as u8
+}
+
+// Appends the last `width` hexadecimal digits of a number.
+pub fn put_hex<const N: usize>(out: &mut ArrayVec<u8, N>, width: usize, value: u16)
+    requires { Room out.old.items (hex_of width value) N }
+    ensures { out.new.items ≡ out.old.items ++ hex_of width value }
+{
+    for i in (0..width).rev() {
+        out.push(hex_digit(digit_at(value, i)));
+    }
 }
 
 // Writes a number in decimal at the end of twenty places, from the last digit to the first; where the first one stands.
@@ -59,12 +61,12 @@ fn spell(value: u64, digits: &mut [u8; 20]) -> usize
     }
 }
 
-// Puts a number in decimal.
-pub fn put_decimal(out: &mut [u8], n: usize, value: u64) -> usize
-    requires { n + length (decimal_of value) ≤ length out.old }
-    ensures { Put out.old n (decimal_of value) result out.new }
+// Appends a number in decimal.
+pub fn put_decimal<const N: usize>(out: &mut ArrayVec<u8, N>, value: u64)
+    requires { Room out.old.items (decimal_of value) N }
+    ensures { out.new.items ≡ out.old.items ++ decimal_of value }
 {
     let mut digits = [0u8; 20];
     let first = spell(value, &mut digits);
-    put(out, n, &digits[first..])
+    put(out, &digits[first..]);
 }

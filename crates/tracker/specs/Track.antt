@@ -1,14 +1,17 @@
 -- The tracker (01, "Tracker and stores"): it reads pairs while two bytes remain; A9, A2, A0 set A, X, Y; 85, 86, 84 store a known register in zero page;
 -- each moves two bytes, and any other byte moves one. Assumes nothing.
-use Rattle.std.specs.Prelude.{◌≡◌, Bool, true, false, cond, ◌||◌, List, [], ◌∷◌, ℕ, ◌-◌, ◌≤◌, eqb, length, get_or, set, take, drop, replicate}
-use Rattle.tracker.specs.declared.Known.{Known}
-use Rattle.tracker.specs.declared.Known.TheVariants.{Value, Unknown}
+use Rattle.std.specs.Prelude.{◌≡◌, Bool, true, false, cond, ◌||◌, List, [], ◌∷◌, ℕ, ◌-◌, ◌≤◌, eqb, length, take, drop, replicate, Option, Some, None, is_some}
+use Rattle.std.specs.Prelude.{slice_index_or, slice_set}
 use Rattle.tracker.specs.declared.Registers.{Registers}
 use Rattle.tracker.specs.declared.ImmState.{ImmState}
 
+-- before anything is loaded no register is known
+abbrev pub unloaded : Registers
+unloaded = record { a = None; x = None; y = None }
+
 -- before the first byte nothing is known
 unfoldable pub nothing : ImmState
-nothing = record { regs = record { a = Unknown; x = Unknown; y = Unknown }; zp = replicate 256 0; marks = replicate 256 0 }
+nothing = record { regs = unloaded; zp = replicate 256 None }
 
 -- ── a pair ──
 -- the opcodes that the tracker knows
@@ -16,32 +19,24 @@ abbrev pub is_tracked : ℕ → Bool
 is_tracked op = eqb op 0xA9 || eqb op 0xA2 || eqb op 0xA0 || eqb op 0x85 || eqb op 0x86 || eqb op 0x84
 
 -- the registers after a load of a value
-abbrev pub loaded : (op : ℕ) → (value : Known) → Registers → Registers
+abbrev pub loaded : (op : ℕ) → (value : Option ℕ) → Registers → Registers
 loaded op value r =
     cond (eqb op 0xA9) (record { a = value; x = r.x; y = r.y })
     (cond (eqb op 0xA2) (record { a = r.a; x = value; y = r.y })
     (cond (eqb op 0xA0) (record { a = r.a; x = r.x; y = value }) r))
 
 -- the register that a store stores; none where the opcode is no store
-abbrev pub stored : (op : ℕ) → Registers → Known
-stored op r = cond (eqb op 0x85) r.a (cond (eqb op 0x86) r.x (cond (eqb op 0x84) r.y Unknown))
+abbrev pub stored : (op : ℕ) → Registers → Option ℕ
+stored op r = cond (eqb op 0x85) r.a (cond (eqb op 0x86) r.x (cond (eqb op 0x84) r.y None))
 
--- a known value goes into zero page and is marked; an unknown one leaves zero page as it is
-abbrev pub zp_with : Known → (arg : ℕ) → List ℕ → List ℕ
-zp_with (Value v) arg zp = set zp arg v
-zp_with Unknown arg zp = zp
+-- a known value goes into zero page; an unknown one leaves zero page as it is
+abbrev pub zp_with : Option ℕ → (arg : ℕ) → List (Option ℕ) → List (Option ℕ)
+zp_with (Some v) arg zp = slice_set zp arg (Some v)
+zp_with None arg zp = zp
 
-abbrev pub marks_with : Known → (arg : ℕ) → List ℕ → List ℕ
-marks_with (Value v) arg marks = set marks arg 1
-marks_with Unknown arg marks = marks
-
+-- the state after the pair of a known opcode and its argument
 abbrev pub applied : (op arg : ℕ) → ImmState → ImmState
-applied op arg s =
-    record {
-      regs = loaded op (Value arg) s.regs;
-      zp = zp_with (stored op s.regs) arg s.zp;
-      marks = marks_with (stored op s.regs) arg s.marks;
-    }
+applied op arg s = record { regs = loaded op (Some arg) s.regs; zp = zp_with (stored op s.regs) arg s.zp }
 
 -- ── a run of bytes ──
 unfoldable pub track : ImmState → List ℕ → ImmState
@@ -53,13 +48,13 @@ track s (op ∷ arg ∷ rest) = elim (is_tracked op) [ true ↦ track (applied o
 abbrev pub tracked : List ℕ → ImmState
 tracked code = track nothing code
 
--- is a zero-page byte known?
-abbrev pub knows : ImmState → (z : ℕ) → Bool
-knows s z = eqb (get_or s.marks z 0) 1
+-- the value of a zero-page byte, if it is known
+abbrev pub value_in : ImmState → (z : ℕ) → Option ℕ
+value_in s z = slice_index_or s.zp z None
 
--- its value, if it is known
-abbrev pub value_in : ImmState → (z : ℕ) → Known
-value_in s z = cond (knows s z) (Value (get_or s.zp z 0)) Unknown
+-- is it known?
+abbrev pub knows : ImmState → (z : ℕ) → Bool
+knows s z = is_some (value_in s z)
 
 -- ── a place in a longer run ──
 -- the bytes from `at` on and below n
@@ -77,6 +72,6 @@ pub record Stands (code : List ℕ) (n at : ℕ) (s : ImmState) : Type 0 where
   pub by : at ≤ n
   pub state : tracked (take n code) ≡ s
 
--- the state of registers and two lent arrays
-abbrev pub state_of : Registers → (zp marks : List ℕ) → ImmState
-state_of regs zp marks = record { regs = regs; zp = zp; marks = marks }
+-- the state of registers and a lent zero page
+abbrev pub state_of : Registers → (zp : List (Option ℕ)) → ImmState
+state_of regs zp = record { regs = regs; zp = zp }

@@ -3,32 +3,38 @@
 #![tactic(auto)]
 
 ghost use Rattle.std.specs.Prelude.{◌≡◌, ◌+◌, ◌≤◌, ◌<◌, length};
-ghost use Rattle.tracker.specs.Track.{nothing, is_tracked, loaded, stored, zp_with, marks_with, value_in, state_of, tracked, Reached, Stands};
+ghost use Rattle.tracker.specs.Track.{unloaded, is_tracked, loaded, stored, zp_with, state_of, tracked, Reached, Stands};
 
-// A register's value, if it is known.
-#[derive(Clone, Copy)]
-pub enum Known {
-    Value(u8),
-    Unknown,
-}
-
-#[derive(Clone, Copy)]
+// The registers' values, as far as they are known.
+#[derive(Clone, Copy, Debug, PartialEq, Eq)]
 pub struct Registers {
-    pub a: Known,
-    pub x: Known,
-    pub y: Known,
+    pub a: Option<u8>,
+    pub x: Option<u8>,
+    pub y: Option<u8>,
 }
 
-// The registers, the zero page, and a mark of 1 at each zero-page byte that is known.
-#[derive(Clone, Copy)]
+impl Registers {
+    // Before anything is loaded.
+    pub fn unloaded() -> Self
+        ensures { result ≡ unloaded }
+    {
+        Registers {
+            a: None,
+            x: None,
+            y: None,
+        }
+    }
+}
+
+// What is known of the registers and of each zero-page byte.
+#[derive(Clone, Copy, Debug, PartialEq, Eq)]
 pub struct ImmState {
     pub regs: Registers,
-    pub zp: [u8; 256],
-    pub marks: [u8; 256],
+    pub zp: [Option<u8>; 256],
 }
 
-// Where the tracker stands in a run, and what the registers hold there. The zero page and its marks are lent beside it.
-#[derive(Clone, Copy)]
+// Where the tracker stands in a run, and what the registers hold there. The zero page is lent beside it.
+#[derive(Clone, Copy, Debug, PartialEq, Eq)]
 pub struct Place {
     pub at: usize,
     pub regs: Registers,
@@ -37,15 +43,11 @@ pub struct Place {
 impl Place {
     // Before the first byte.
     pub fn start() -> Self
-        ensures { (result.at ≡ 0) × (result.regs ≡ nothing.regs) }
+        ensures { (result.at ≡ 0) × (result.regs ≡ unloaded) }
     {
         Place {
             at: 0,
-            regs: Registers {
-                a: Known::Unknown,
-                x: Known::Unknown,
-                y: Known::Unknown,
-            },
+            regs: Registers::unloaded(),
         }
     }
 }
@@ -54,93 +56,55 @@ impl Place {
 fn is_tracked(op: u8) -> bool
     ensures { result ≡ is_tracked op }
 {
-    match op {
-        0xA9 => true,
-        0xA2 => true,
-        0xA0 => true,
-        0x85 => true,
-        0x86 => true,
-        0x84 => true,
-        _ => false,
-    }
+    matches!(op, 0xA9 | 0xA2 | 0xA0 | 0x85 | 0x86 | 0x84)
 }
 
 // The registers after a load of a value.
-pub fn loaded(op: u8, value: Known, regs: Registers) -> Registers
+pub fn loaded(op: u8, value: Option<u8>, regs: Registers) -> Registers
     ensures { result ≡ loaded op value regs }
 {
-    let a = regs.a;
-    let x = regs.x;
-    let y = regs.y;
-    if op == 0xA9 {
-        return Registers { a: value, x, y };
+    match op {
+        0xA9 => Registers { a: value, ..regs },
+        0xA2 => Registers { x: value, ..regs },
+        0xA0 => Registers { y: value, ..regs },
+        _ => regs,
     }
-    if op == 0xA2 {
-        return Registers { a, x: value, y };
-    }
-    if op == 0xA0 {
-        return Registers { a, x, y: value };
-    }
-    regs
 }
 
 // The register that a store stores.
-pub fn stored(op: u8, regs: Registers) -> Known
+pub fn stored(op: u8, regs: Registers) -> Option<u8>
     ensures { result ≡ stored op regs }
 {
-    if op == 0x85 {
-        return regs.a;
-    }
-    if op == 0x86 {
-        return regs.x;
-    }
-    if op == 0x84 {
-        return regs.y;
-    }
-    Known::Unknown
-}
-
-// Puts a known value into zero page, and marks it.
-fn store(value: Known, arg: u8, zp: &mut [u8; 256], marks: &mut [u8; 256])
-    ensures { (zp.new ≡ zp_with value arg zp.old) × (marks.new ≡ marks_with value arg marks.old) }
-{
-    if let Known::Value(v) = value {
-        let i = arg as usize;
-        zp[i] = v;
-        marks[i] = 1;
+    match op {
+        0x85 => regs.a,
+        0x86 => regs.x,
+        0x84 => regs.y,
+        _ => None,
     }
 }
 
-// What is known of a zero-page byte.
-pub fn value_in(z: u8, regs: Registers, zp: &[u8; 256], marks: &[u8; 256]) -> Known
-    ensures { result ≡ value_in (state_of regs zp.now marks.now) z }
+// Puts a known value into zero page; an unknown one leaves it as it is.
+fn store(value: Option<u8>, arg: u8, zp: &mut [Option<u8>; 256])
+    ensures { zp.new ≡ zp_with value arg zp.old }
 {
-    let i = z as usize;
-    if marks[i] == 1 {
-        return Known::Value(zp[i]);
+    if value.is_some() {
+        zp[arg as usize] = value;
     }
-    Known::Unknown
 }
 
 // Goes on from a place until the first `n` bytes of `code` are read. A caller that asks for growing `n` reads each byte once.
-pub fn advance(
-    code: &[u8],
-    n: usize,
-    from: Place,
-    zp: &mut [u8; 256],
-    marks: &mut [u8; 256],
-) -> Place
-    requires { Reached code.now from.at (state_of from.regs zp.old marks.old) × (from.at ≤ n) × (n ≤ length code.now) }
-    ensures { Stands code.now n result.at (state_of result.regs zp.new marks.new) }
+pub fn advance(code: &[u8], n: usize, from: Place, zp: &mut [Option<u8>; 256]) -> Place
+    requires { Reached code.now from.at (state_of from.regs zp.old) × (from.at ≤ n) × (n ≤ length code.now) }
+    ensures { Stands code.now n result.at (state_of result.regs zp.new) }
 {
-    let mut at = from.at;
-    let mut regs = from.regs;
+    let Place { mut at, mut regs } = from;
+    // A known opcode is passed with its argument, any other byte alone.
     while at + 1 < n {
         let op = code[at];
         let arg = code[at + 1];
         if is_tracked(op) {
-            store(stored(op, regs), arg, zp, marks);
-            regs = loaded(op, Known::Value(arg), regs);
+            store(stored(op, regs), arg, zp);
+            regs = loaded(op, Some(arg), regs);
             at += 2;
         } else {
             at += 1;
@@ -153,9 +117,7 @@ pub fn advance(
 pub fn track_immediates(code: &[u8]) -> ImmState
     ensures { result ≡ tracked code.now }
 {
-    let mut zp = [0u8; 256];
-    let mut marks = [0u8; 256];
-    let end = advance(code, code.len(), Place::start(), &mut zp, &mut marks);
-    let regs = end.regs;
-    ImmState { regs, zp, marks }
+    let mut zp = [None; 256];
+    let end = advance(code, code.len(), Place::start(), &mut zp);
+    ImmState { regs: end.regs, zp }
 }

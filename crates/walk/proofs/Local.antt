@@ -12,8 +12,7 @@ use Rattle.mos6502.specs.declared.Decoded.{Decoded}
 use Rattle.mos6502.specs.declared.Flow.{Flow}
 use Rattle.mos6502.specs.declared.Flow.TheVariants.{Next, Jump, Call, Branch, Stop, Refuse}
 use Rattle.mos6502.specs.Class.{length_of}
-use Rattle.image.specs.declared.Address.{Address}
-use Rattle.image.specs.declared.Address.TheVariants.{At, Nowhere}
+use Rattle.std.specs.Prelude.{Option, Some, None}
 use Rattle.image.specs.Image.{branch_target}
 use Rattle.site.specs.declared.Causes.{Causes}
 use Rattle.site.specs.declared.Causes.TheVariants.{Clear, One, Two}
@@ -57,14 +56,14 @@ module _ (inside inside' : ℕ → Bool) (within : (b : ℕ) → inside b ≡ fa
   abbrev Passing : Step → Type 0
   Passing s = (b : ℕ) → b ∈ follows (as_step s) → inside b ≡ inside' b
 
-  fork_same : (n t : ℕ) → Passing (forks_to inside (At n) (At t)) → forks_to inside (At n) (At t) ≡ forks_to inside' (At n) (At t)
+  fork_same : (n t : ℕ) → Passing (forks_to inside (Some n) (Some t)) → forks_to inside (Some n) (Some t) ≡ forks_to inside' (Some n) (Some t)
   fork_same n t same = by (either (inside t))
     where
-      by : (inside t ≡ true) ⊎ (inside t ≡ false) → forks_to inside (At n) (At t) ≡ forks_to inside' (At n) (At t)
+      by : (inside t ≡ true) ⊎ (inside t ≡ false) → forks_to inside (Some n) (Some t) ≡ forks_to inside' (Some n) (Some t)
       by (inl e) = rw (← rw e at same t (there (here refl)), e)
       by (inr e) = rw (e, within t e)
 
-  fork_next : (n t : ℕ) → n ∈ follows (as_step (forks_to inside (At n) (At t)))
+  fork_next : (n t : ℕ) → n ∈ follows (as_step (forks_to inside (Some n) (Some t)))
   fork_next n t = by (inside t)
     where
       by : (b : Bool) → n ∈ follows (as_step (cond b (Forks n t) (Goes n)))
@@ -72,17 +71,17 @@ module _ (inside inside' : ℕ → Bool) (within : (b : ℕ) → inside b ≡ fa
       by false = here refl
 
   module _ (a n : ℕ) where
-    abbrev next : Address
+    abbrev next : Option ℕ
     next = next_at inside a n
 
-    abbrev next' : Address
+    abbrev next' : Option ℕ
     next' = next_at inside' a n
 
     -- a next address that is needed is inside
     needed : is_clear (ran_off next) ≡ true → inside (a + n) ≡ true
     needed e = by (inside (a + n)) e
       where
-        by : (b : Bool) → is_clear (ran_off (cond b (At (a + n)) Nowhere)) ≡ true → b ≡ true
+        by : (b : Bool) → is_clear (ran_off (cond b (Some (a + n)) None)) ≡ true → b ≡ true
         by true e = refl
         by false e = absurd (false≢true e)
 
@@ -103,13 +102,13 @@ module _ (inside inside' : ℕ → Bool) (within : (b : ℕ) → inside b ≡ fa
         record { step = rw (on, on'); clear = rw on' }
     flow_local Call opcode operand e same =
         let on = needed e in
-        let passing : Passing (forks_to inside (At (a + n)) (At operand)) = rw on at same in
+        let passing : Passing (forks_to inside (Some (a + n)) (Some operand)) = rw on at same in
         let on' = sym (passing (a + n) (fork_next (a + n) operand)) ∙ on in
         record { step = rw (on, on') (fork_same (a + n) operand passing); clear = rw on' }
     flow_local Branch opcode operand e same =
         let on = needed e in
         let target = branch_target (a + n) (operand % 256) in
-        let passing : Passing (forks_to inside (At (a + n)) (At target)) = rw on at same in
+        let passing : Passing (forks_to inside (Some (a + n)) (Some target)) = rw on at same in
         let on' = sym (passing (a + n) (fork_next (a + n) target)) ∙ on in
         record { step = rw (on, on') (fork_same (a + n) target passing); clear = rw on' }
 

@@ -7,8 +7,7 @@ use Prim.Native.Nat.{ℕ}
 use Rattle.mos6502.specs.declared.Decoded.{Decoded}
 use Rattle.mos6502.specs.declared.Flow.{Flow}
 use Rattle.mos6502.specs.declared.Flow.TheVariants.{Next, Jump, Call, Branch, Stop, Refuse}
-use Rattle.image.specs.declared.Address.{Address}
-use Rattle.image.specs.declared.Address.TheVariants.{At, Nowhere}
+use Rattle.std.specs.Prelude.{Option, Some, None}
 use Rattle.image.specs.Image.{inside}
 use Rattle.site.specs.declared.Causes.{Causes}
 use Rattle.site.specs.declared.Causes.TheVariants.{Clear, One, Two}
@@ -22,20 +21,20 @@ use Rattle.walk.specs.declared.Rule.TheVariants.{Span, Diagnosis, Stores}
 use Rattle.walk.specs.Step.{goes_to, forks_to, follow, calls, is_clear, is_passable, accepts, otherwise, step_by, as_step}
 use Rattle.walk.specs.Walked.{step_in}
 
-goes_fine : (a : Address) → Fine (as_step (goes_to a))
-goes_fine (At a) = tt
-goes_fine Nowhere = tt
+goes_fine : (a : Option ℕ) → Fine (as_step (goes_to a))
+goes_fine (Some a) = tt
+goes_fine None = tt
 
-forks_fine : (inside : ℕ → Bool) (next target : Address) → Fine (as_step (forks_to inside next target))
-forks_fine inside (At n) (At t) = by (inside t)
+forks_fine : (inside : ℕ → Bool) (next target : Option ℕ) → Fine (as_step (forks_to inside next target))
+forks_fine inside (Some n) (Some t) = by (inside t)
   where
     by : (b : Bool) → Fine (as_step (cond b (Forks n t) (Goes n)))
     by true = tt
     by false = tt
-forks_fine inside (At n) Nowhere = tt
-forks_fine inside Nowhere target = tt
+forks_fine inside (Some n) None = tt
+forks_fine inside None target = tt
 
-follow_fine : (inside : ℕ → Bool) (f : Flow) (next target : Address) → Fine (as_step (follow inside f next target))
+follow_fine : (inside : ℕ → Bool) (f : Flow) (next target : Option ℕ) → Fine (as_step (follow inside f next target))
 follow_fine inside Next next target = goes_fine next
 follow_fine inside Jump next target = goes_fine target
 follow_fine inside Call next target = forks_fine inside next target
@@ -43,7 +42,7 @@ follow_fine inside Branch next target = forks_fine inside next target
 follow_fine inside Stop next target = tt
 follow_fine inside Refuse next target = tt
 
-calls_fine : (f : Flow) (target : Address) → Fine (as_step (calls f target))
+calls_fine : (f : Flow) (target : Option ℕ) → Fine (as_step (calls f target))
 calls_fine Call target = goes_fine target
 calls_fine Next target = tt
 calls_fine Jump target = tt
@@ -58,7 +57,7 @@ Strict Span = Unit {0}
 Strict Diagnosis = ⊥
 Strict Stores = Unit {0}
 
-strict_refuses : (rule : Rule) → Strict rule → (f : Flow) (target : Address) → otherwise rule f target ≡ Refuses
+strict_refuses : (rule : Rule) → Strict rule → (f : Flow) (target : Option ℕ) → otherwise rule f target ≡ Refuses
 strict_refuses Span s f target = refl
 strict_refuses Stores s f target = refl
 strict_refuses Diagnosis s f target = elim s [ ]

@@ -1,9 +1,7 @@
 -- What a site does to a path, under the rule of the span, of the diagnosis or of the stores. Assumes nothing.
-use Rattle.std.specs.Prelude.{Bool, true, false, cond, not, ◌&&◌, ◌||◌, ℕ, eqb}
+use Rattle.std.specs.Prelude.{Bool, true, false, cond, not, ◌&&◌, ◌||◌, ℕ, eqb, Option, Some, None}
 use Rattle.mos6502.specs.declared.Flow.{Flow}
 use Rattle.mos6502.specs.declared.Flow.TheVariants.{Next, Jump, Call, Branch, Stop, Refuse}
-use Rattle.image.specs.declared.Address.{Address}
-use Rattle.image.specs.declared.Address.TheVariants.{At, Nowhere}
 use Rattle.cause.specs.declared.RefusalCause.{RefusalCause}
 use Rattle.cause.specs.declared.RefusalCause.TheVariants.{IllegalOpcode, Brk, JmpIndirect, IndirectIndexedY, IndirectIndexedX, OperandOffEnd, RanOffEnd, Budget, EntryOutside}
 use Rattle.site.specs.declared.Causes.{Causes}
@@ -16,17 +14,17 @@ use Rattle.walk.specs.declared.Rule.{Rule}
 use Rattle.walk.specs.declared.Rule.TheVariants.{Span, Diagnosis, Stores}
 
 -- ── where control goes on ──
-abbrev pub goes_to : Address → Step
-goes_to (At a) = Goes a
-goes_to Nowhere = Ends
+abbrev pub goes_to : Option ℕ → Step
+goes_to (Some a) = Goes a
+goes_to None = Ends
 
 -- on at the next address, with a target put by that is inside
-abbrev pub forks_to : (inside : ℕ → Bool) → (next target : Address) → Step
-forks_to inside (At n) (At t) = cond (inside t) (Forks n t) (Goes n)
-forks_to inside (At n) Nowhere = Goes n
-forks_to inside Nowhere target = Ends
+abbrev pub forks_to : (inside : ℕ → Bool) → (next target : Option ℕ) → Step
+forks_to inside (Some n) (Some t) = cond (inside t) (Forks n t) (Goes n)
+forks_to inside (Some n) None = Goes n
+forks_to inside None target = Ends
 
-abbrev pub follow : (inside : ℕ → Bool) → Flow → (next target : Address) → Step
+abbrev pub follow : (inside : ℕ → Bool) → Flow → (next target : Option ℕ) → Step
 follow inside Next next target = goes_to next
 follow inside Jump next target = goes_to target
 follow inside Call next target = forks_to inside next target
@@ -62,16 +60,16 @@ is_passable (Two c d) = is_pointer c && is_pointer d
 abbrev pub is_accepted : ℕ → Bool
 is_accepted t = eqb t 0xFFE1 || eqb t 0xFFE4
 
-abbrev pub is_outside : (inside : ℕ → Bool) → Address → Bool
-is_outside inside (At t) = not (inside t)
-is_outside inside Nowhere = false
+abbrev pub is_outside : (inside : ℕ → Bool) → Option ℕ → Bool
+is_outside inside (Some t) = not (inside t)
+is_outside inside None = false
 
-abbrev pub is_lost : (inside : ℕ → Bool) → Address → Bool
-is_lost inside (At t) = not (inside t) && not (is_accepted t)
-is_lost inside Nowhere = false
+abbrev pub is_lost : (inside : ℕ → Bool) → Option ℕ → Bool
+is_lost inside (Some t) = not (inside t) && not (is_accepted t)
+is_lost inside None = false
 
 -- a branch out leaves, and so do JMP and JSR to anywhere outside but the two accepted calls
-abbrev pub leaves : (inside : ℕ → Bool) → Flow → (target : Address) → Bool
+abbrev pub leaves : (inside : ℕ → Bool) → Flow → (target : Option ℕ) → Bool
 leaves inside Jump target = is_lost inside target
 leaves inside Call target = is_lost inside target
 leaves inside Branch target = is_outside inside target
@@ -88,7 +86,7 @@ accepts Diagnosis inside s = is_passable s.causes
 accepts Stores inside s = is_passable s.causes && not (leaves inside s.flow s.target)
 
 -- A call whose next address is past last still has its target: the original puts that by before it looks for the next address. Any other path ends.
-abbrev pub calls : Flow → (target : Address) → Step
+abbrev pub calls : Flow → (target : Option ℕ) → Step
 calls Call target = goes_to target
 calls Next target = Ends
 calls Jump target = Ends
@@ -97,7 +95,7 @@ calls Stop target = Ends
 calls Refuse target = Ends
 
 -- at any other site the diagnosis ends the path, but for a call's target, and span and stores are refused
-abbrev pub otherwise : Rule → Flow → (target : Address) → Step
+abbrev pub otherwise : Rule → Flow → (target : Option ℕ) → Step
 otherwise Span flow target = Refuses
 otherwise Diagnosis flow target = calls flow target
 otherwise Stores flow target = Refuses

@@ -1,8 +1,10 @@
 -- The walk of an image from its entries, as the machine of `reach` at the step of a rule. Assumes nothing.
-use Rattle.std.specs.Prelude.{◌≡◌, false, List, ℕ, suc, ◌-◌, length}
+use Rattle.std.specs.Prelude.{◌≡◌, false, List, ℕ, suc, ◌-◌, length, Result, Ok, Err}
 use Rattle.lists.specs.Lists.{elem, scan}
 use Rattle.mos6502.specs.declared.Decoded.{Decoded}
 use Rattle.mos6502.specs.Class.{manual_class}
+use Rattle.refusal.specs.declared.Refusal.{Refusal}
+use Rattle.refusal.specs.declared.Refusal.TheVariants as refusal
 use Rattle.image.specs.Image.{inside}
 use Rattle.address_set.specs.Map.{has}
 use Rattle.site.specs.Site.{site_in}
@@ -27,6 +29,13 @@ as_end Finished = machine.finished
 as_end (Refused pc) = machine.refused pc
 as_end (Spent pc) = machine.spent pc
 as_end (Full pc) = machine.full pc
+
+-- the outcome of a call whose walk came to this end: 4 where a site was refused or the instructions were too many, and 7 where too many addresses were pending
+abbrev pub outcome_of : End → Result (Unit {0}) Refusal
+outcome_of Finished = Ok tt
+outcome_of (Refused pc) = Err refusal.Refused
+outcome_of (Spent pc) = Err refusal.Refused
+outcome_of (Full pc) = Err refusal.Full
 
 -- what the walk of an image is
 abbrev pub Walk : (class : ℕ → Decoded) → Rule → (image : List ℕ) (load last : ℕ) (entries : List ℕ) → machine.End → (met : List ℕ) → Type 0

@@ -2,16 +2,18 @@
 
 #![tactic(auto)]
 
-ghost use Rattle.std.specs.Prelude.{◌≡◌, ◌≤◌, ◌<◌, set};
+ghost use Rattle.std.specs.Prelude.{◌≡◌, ◌≤◌, ◌<◌};
 ghost use Rattle.mos6502.specs.Class.{manual_class};
-ghost use Rattle.image.specs.Image.{Lies, inside};
+ghost use Rattle.image.specs.Image.{inside};
 ghost use Rattle.site.specs.Site.{site_in};
-ghost use Rattle.walk.specs.Step.{goes_to, forks_to, follow, calls, is_clear, is_pointer, is_passable, is_accepted, is_outside, is_lost, leaves, step_by};
-ghost use Rattle.walk.specs.Walked.{Cleared, Walked};
+ghost use Rattle.walk.specs.Step.{goes_to, forks_to, follow, calls, is_clear, is_pointer, is_passable, is_accepted, is_outside, is_lost, leaves, accepts, step_by};
+ghost use Rattle.walk.specs.Walked.{outcome_of, Cleared, Walked};
 
+use arrayvec::ArrayVec;
 use cause::RefusalCause;
-use image::{Address, Bounds};
+use image::{Bounds, Image};
 use mos6502::Flow;
+use refusal::Refusal;
 use site::{Causes, Site};
 
 // Whose walk it is.
@@ -40,6 +42,19 @@ pub enum End {
     Full(u16),
 }
 
+impl End {
+    // A walk that did not finish has no answer: it met a refused site or too many instructions, or too many addresses were pending.
+    pub fn finished(self) -> Result<(), Refusal>
+        ensures { result ≡ outcome_of self }
+    {
+        match self {
+            End::Finished => Ok(()),
+            End::Refused(_) | End::Spent(_) => Err(Refusal::Refused),
+            End::Full(_) => Err(Refusal::Full),
+        }
+    }
+}
+
 // Instructions that a walk may meet.
 const BUDGET: usize = 4096;
 
@@ -49,84 +64,61 @@ const PENDING: usize = 4096;
 // ROM entry points that a routine may call without losing what is known of its stores.
 const ROM_NO_USER_RAM_WRITE: [u16; 2] = [0xFFE1, 0xFFE4];
 
-fn goes_to(a: Address) -> Step
+fn goes_to(a: Option<u16>) -> Step
     ensures { result ≡ goes_to a }
 {
     match a {
-        Address::At(n) => Step::Goes(n),
-        Address::Nowhere => Step::Ends,
+        Some(n) => Step::Goes(n),
+        None => Step::Ends,
     }
 }
 
 // An address outside is not put by.
-fn forks_to(bounds: Bounds, next: Address, target: Address) -> Step
+fn forks_to(bounds: Bounds, next: Option<u16>, target: Option<u16>) -> Step
     ensures { result ≡ forks_to (inside bounds.load bounds.last) next target }
 {
-    let Address::At(n) = next else {
-        return Step::Ends;
-    };
-    let Address::At(t) = target else {
-        return Step::Goes(n);
-    };
-    if bounds.inside(t) {
-        Step::Forks(n, t)
-    } else {
-        Step::Goes(n)
+    match (next, target) {
+        (Some(n), Some(t)) if bounds.inside(t) => Step::Forks(n, t),
+        (Some(n), _) => Step::Goes(n),
+        (None, _) => Step::Ends,
     }
 }
 
-fn follow(bounds: Bounds, flow: Flow, next: Address, target: Address) -> Step
+fn follow(bounds: Bounds, flow: Flow, next: Option<u16>, target: Option<u16>) -> Step
     ensures { result ≡ follow (inside bounds.load bounds.last) flow next target }
 {
     match flow {
         Flow::Next => goes_to(next),
         Flow::Jump => goes_to(target),
-        Flow::Call => forks_to(bounds, next, target),
-        Flow::Branch => forks_to(bounds, next, target),
-        Flow::Stop => Step::Ends,
-        Flow::Refuse => Step::Ends,
+        Flow::Call | Flow::Branch => forks_to(bounds, next, target),
+        Flow::Stop | Flow::Refuse => Step::Ends,
     }
 }
 
 // Where a refused site still leads: a call that runs off the end has its target.
-fn calls(flow: Flow, target: Address) -> Step
+fn calls(flow: Flow, target: Option<u16>) -> Step
     ensures { result ≡ calls flow target }
 {
     match flow {
         Flow::Call => goes_to(target),
-        Flow::Next => Step::Ends,
-        Flow::Jump => Step::Ends,
-        Flow::Branch => Step::Ends,
-        Flow::Stop => Step::Ends,
-        Flow::Refuse => Step::Ends,
+        _ => Step::Ends,
     }
 }
 
 fn is_clear(causes: Causes) -> bool
     ensures { result ≡ is_clear causes }
 {
-    match causes {
-        Causes::Clear => true,
-        Causes::One(_) => false,
-        Causes::Two(_, _) => false,
-    }
+    matches!(causes, Causes::Clear)
 }
 
 // Whether the cause is one of the two that a pointer gives.
 pub fn is_pointer(cause: RefusalCause) -> bool
     ensures { result ≡ is_pointer cause }
 {
-    match cause {
-        RefusalCause::IndirectIndexedY => true,
-        RefusalCause::IndirectIndexedX => true,
-        RefusalCause::IllegalOpcode => false,
-        RefusalCause::Brk => false,
-        RefusalCause::JmpIndirect => false,
-        RefusalCause::OperandOffEnd => false,
-        RefusalCause::RanOffEnd => false,
-        RefusalCause::Budget => false,
-        RefusalCause::EntryOutside => false,
-    }
+    matches!(
+        cause,
+        RefusalCause::IndirectIndexedY | RefusalCause::IndirectIndexedX
+    )
 }
 
 fn is_passable(causes: Causes) -> bool
@@ -142,143 +134,108 @@ fn is_passable(causes: Causes) -> bool
 fn is_accepted(t: u16) -> bool
     ensures { result ≡ is_accepted t }
 {
-    t == ROM_NO_USER_RAM_WRITE[0] || t == ROM_NO_USER_RAM_WRITE[1]
+    ROM_NO_USER_RAM_WRITE.contains(&t)
 }
 
-fn is_outside(bounds: Bounds, target: Address) -> bool
+fn is_outside(bounds: Bounds, target: Option<u16>) -> bool
     ensures { result ≡ is_outside (inside bounds.load bounds.last) target }
 {
     match target {
-        Address::At(t) => !bounds.inside(t),
-        Address::Nowhere => false,
+        Some(t) => !bounds.inside(t),
+        None => false,
     }
 }
 
-fn is_lost(bounds: Bounds, target: Address) -> bool
+fn is_lost(bounds: Bounds, target: Option<u16>) -> bool
     ensures { result ≡ is_lost (inside bounds.load bounds.last) target }
 {
     match target {
-        Address::At(t) => !bounds.inside(t) && !is_accepted(t),
-        Address::Nowhere => false,
+        Some(t) => !bounds.inside(t) && !is_accepted(t),
+        None => false,
     }
 }
 
 // Whether control leaves the image for where nobody knows what is stored.
-fn leaves(bounds: Bounds, flow: Flow, target: Address) -> bool
+fn leaves(bounds: Bounds, flow: Flow, target: Option<u16>) -> bool
     ensures { result ≡ leaves (inside bounds.load bounds.last) flow target }
 {
     match flow {
-        Flow::Jump => is_lost(bounds, target),
-        Flow::Call => is_lost(bounds, target),
+        Flow::Jump | Flow::Call => is_lost(bounds, target),
         Flow::Branch => is_outside(bounds, target),
-        Flow::Next => false,
-        Flow::Stop => false,
-        Flow::Refuse => false,
+        Flow::Next | Flow::Stop | Flow::Refuse => false,
+    }
+}
+
+// Whether a rule passes a site.
+fn accepts(s: Site, bounds: Bounds, rule: Rule) -> bool
+    ensures { result ≡ accepts rule (inside bounds.load bounds.last) s }
+{
+    match rule {
+        Rule::Span => is_clear(s.causes),
+        Rule::Diagnosis => is_passable(s.causes),
+        Rule::Stores => is_passable(s.causes) && !leaves(bounds, s.flow, s.target),
     }
 }
 
 // The step of a site under a rule.
+#[tactic(auto, unfolding(crate::specs::Step::step_by))]
 pub fn step_of(s: Site, bounds: Bounds, rule: Rule) -> Step
     ensures { result ≡ step_by rule (inside bounds.load bounds.last) s }
 {
-    let flow = s.flow;
-    let next = s.next;
-    let target = s.target;
-    let causes = s.causes;
+    if accepts(s, bounds, rule) {
+        return follow(bounds, s.flow, s.next, s.target);
+    }
     match rule {
-        Rule::Span => {
-            if is_clear(causes) {
-                return follow(bounds, flow, next, target);
-            }
-            Step::Refuses
-        }
-        Rule::Diagnosis => {
-            if is_passable(causes) {
-                return follow(bounds, flow, next, target);
-            }
-            calls(flow, target)
-        }
-        Rule::Stores => {
-            if is_passable(causes) {
-                if leaves(bounds, flow, target) {
-                    return Step::Refuses;
-                }
-                return follow(bounds, flow, next, target);
-            }
-            Step::Refuses
-        }
+        Rule::Span | Rule::Stores => Step::Refuses,
+        Rule::Diagnosis => calls(s.flow, s.target),
     }
 }
 
-fn step_at(image: &[u8], bounds: Bounds, a: u16, rule: Rule) -> Step
-    requires { Lies image.now bounds.load bounds.last × (bounds.load ≤ a) × (a ≤ bounds.last) }
-    ensures { result ≡ step_by rule (inside bounds.load bounds.last) (site_in manual_class image.now bounds.load bounds.last a) }
+fn step_at(image: Image<'_>, a: u16, rule: Rule) -> Step
+    requires { (image.bounds.load ≤ a) × (a ≤ image.bounds.last) }
+    ensures { result ≡ step_by rule (inside image.entry.bounds.load image.entry.bounds.last)
+        (site_in manual_class image.entry.bytes.now image.entry.bounds.load image.entry.bounds.last a) }
 {
-    step_of(site::site_at(image, bounds, a), bounds, rule)
+    step_of(site::site_at(image, a), image.bounds, rule)
 }
 
-fn push(pending: &mut [u16; 4096], at: usize, t: u16)
-    requires { at < 4096 }
-    ensures { pending.new ≡ set pending.old at t }
+// Takes the last entry first, and what was put by, the latest first, before the next entry. An entry is put by only while nothing else is, and taken at once,
+// so the limit of pending addresses is met at forks alone.
+pub fn walk(image: Image<'_>, entries: &[u16], rule: Rule, map: &mut [u8; 8192]) -> End
+    requires { Cleared map.old }
+    ensures { Walked rule image.entry.bytes.now image.entry.bounds.load image.entry.bounds.last entries.now result map.new }
 {
-    pending[at] = t;
-}
-
-// Takes the last entry first, and what was put by, the latest first, before the next entry. Entries are read from the lent list and never pending.
-pub fn walk(image: &[u8], bounds: Bounds, entries: &[u16], rule: Rule, map: &mut [u8; 8192]) -> End
-    requires { Lies image.now bounds.load bounds.last × Cleared map.old }
-    ensures { Walked rule image.now bounds.load bounds.last entries.now result map.new }
-{
-    let mut pending = [0u16; 4096];
-    let mut waiting: usize = 0;
-    let mut left: usize = entries.len();
+    let mut pending: ArrayVec<u16, PENDING> = ArrayVec::new();
     let mut met: usize = 0;
-    let end: End;
-    'outer: loop {
-        let mut pc: u16;
-        if waiting > 0 {
-            waiting -= 1;
-            pc = pending[waiting];
-        } else {
-            if left == 0 {
-                end = End::Finished;
-                break 'outer;
-            }
-            left -= 1;
-            pc = entries[left];
-        }
-        loop {
-            if !bounds.inside(pc) {
-                break;
-            }
-            if !address_set::insert(map, pc) {
-                break;
-            }
-            // The address after the last one allowed leaves both loops at once.
-            if met == BUDGET {
-                end = End::Spent(pc);
-                break 'outer;
-            }
-            met += 1;
-            match step_at(image, bounds, pc, rule) {
-                Step::Ends => {
+    let mut end = End::Finished;
+    'outer: for &entry in entries.iter().rev() {
+        pending.push(entry);
+        while let Some(start) = pending.pop() {
+            let mut pc = start;
+            loop {
+                if !image.bounds.inside(pc) || !address_set::insert(map, pc) {
                     break;
                 }
-                Step::Refuses => {
-                    end = End::Refused(pc);
+                // The address after the last one allowed leaves all loops at once, by the outer label as in the original.
+                if met == BUDGET {
+                    end = End::Spent(pc);
                     break 'outer;
                 }
-                Step::Goes(n) => {
-                    pc = n;
-                }
-                Step::Forks(n, t) => {
-                    if waiting == PENDING {
-                        end = End::Full(pc);
+                met += 1;
+                match step_at(image, pc, rule) {
+                    Step::Ends => break,
+                    Step::Refuses => {
+                        end = End::Refused(pc);
                         break 'outer;
                     }
-                    push(&mut pending, waiting, t);
-                    waiting += 1;
-                    pc = n;
+                    Step::Goes(n) => pc = n,
+                    Step::Forks(n, t) => match pending.try_push(t) {
+                        Ok(()) => pc = n,
+                        Err(_) => {
+                            end = End::Full(pc);
+                            break 'outer;
+                        }
+                    },
                 }
             }
         }

@@ -2,37 +2,28 @@
 
 #![tactic(auto)]
 
-ghost use Rattle.std.specs.Prelude.{◌≡◌, ℕ, length, get_or};
+ghost use Rattle.std.specs.Prelude.{◌≡◌};
 ghost use Rattle.mos6502.specs.Class.{manual_class};
-ghost use Rattle.image.specs.Image.{Lies};
 ghost use Rattle.address_set.specs.Map.{has};
 ghost use Rattle.site.specs.Site.{list_of};
-ghost use Rattle.records.specs.Packed.{flag};
-ghost use Rattle.weights.specs.Weights.{is_some, is_recorded, raised, raised_by, Counted, Filled};
+ghost use Rattle.records.specs.Packed.{address_of};
+ghost use Rattle.weights.specs.Weights.{is_some, is_recorded, one_at, raised, raised_by, Counted, Filled};
 
-use image::{Address, Bounds};
+use image::Image;
 use site::Causes;
 use walk::Rule;
 
 fn is_some(causes: Causes) -> bool
     ensures { result ≡ is_some (list_of causes) }
 {
-    match causes {
-        Causes::Clear => false,
-        Causes::One(_) => true,
-        Causes::Two(_, _) => true,
-    }
+    matches!(causes, Causes::One(_) | Causes::Two(_, _))
 }
 
 // Whether an address is a member of the map with something recorded there.
-fn is_recorded(image: &[u8], bounds: Bounds, map: &[u8; 8192], undecoded: Address, a: u16) -> bool
-    requires { Lies image.now bounds.load bounds.last }
-    ensures { result ≡ is_recorded manual_class image.now bounds.load bounds.last undecoded (has map.now) a }
+fn is_recorded(image: Image<'_>, map: &[u8; 8192], undecoded: Option<u16>, a: u16) -> bool
+    ensures { result ≡ is_recorded manual_class image.entry.bytes.now image.entry.bounds.load image.entry.bounds.last undecoded (has map.now) a }
 {
-    if address_set::contains(map, a) {
-        return is_some(recorder::causes_at(image, bounds, undecoded, a));
-    }
-    false
+    address_set::contains(map, a) && is_some(recorder::causes_at(image, undecoded, a))
 }
 
 // A record with one more, up to a weight of 65,535.
@@ -45,50 +36,43 @@ fn heavier(r: u64) -> u64
     r
 }
 
-// Raises each slot whose address is recorded.
-fn raise_recorded(
-    image: &[u8],
-    bounds: Bounds,
-    map: &[u8; 8192],
-    undecoded: Address,
-    slots: &mut [u64],
-)
-    requires { Lies image.now bounds.load bounds.last }
-    ensures { slots.new ≡ raised_by (λ (a : ℕ). flag (is_recorded manual_class image.now bounds.load bounds.last undecoded (has map.now) a)) slots.old }
+// A record with one more where its address is recorded, and else as it is.
+fn raised_once(image: Image<'_>, map: &[u8; 8192], undecoded: Option<u16>, r: u64) -> u64
+    ensures { result ≡ raised (one_at image.entry.bytes.now image.entry.bounds.load image.entry.bounds.last undecoded map.now (address_of r)) r }
 {
-    let mut i = 0;
-    while i < slots.len() {
-        let r = slots[i];
-        if is_recorded(image, bounds, map, undecoded, records::address_of(r)) {
-            slots[i] = heavier(r);
-        }
-        i += 1;
+    if is_recorded(image, map, undecoded, records::address_of(r)) {
+        heavier(r)
+    } else {
+        r
     }
 }
 
-// Walks the one entry of a list alone, with a fresh limit, and raises the slots that it records.
-fn count_entry(image: &[u8], bounds: Bounds, entry: &[u16], slots: &mut [u64])
-    requires { Lies image.now bounds.load bounds.last × (length entry.now ≡ 1) }
-    ensures { Counted image.now bounds.load bounds.last (get_or entry.now 0 0) slots.old slots.new }
+// Raises each slot whose address is recorded.
+fn raise_recorded(image: Image<'_>, map: &[u8; 8192], undecoded: Option<u16>, slots: &mut [u64])
+    ensures { slots.new ≡ raised_by (one_at image.entry.bytes.now image.entry.bounds.load image.entry.bounds.last undecoded map.now) slots.old }
+{
+    for slot in slots.iter_mut() {
+        *slot = raised_once(image, map, undecoded, *slot);
+    }
+}
+
+// Walks one entry alone, with a fresh limit, and raises the slots that it records.
+fn count_entry(image: Image<'_>, entry: u16, slots: &mut [u64])
+    ensures { Counted image.entry.bytes.now image.entry.bounds.load image.entry.bounds.last entry slots.old slots.new }
 {
     let mut map = [0u8; 8192];
-    let end = walk::walk(image, bounds, entry, Rule::Diagnosis, &mut map);
-    let e = entry[0];
-    if !bounds.inside(e) {
-        address_set::insert(&mut map, e);
+    let end = walk::walk(image, &[entry], Rule::Diagnosis, &mut map);
+    if !image.bounds.inside(entry) {
+        address_set::insert(&mut map, entry);
     }
-    raise_recorded(image, bounds, &map, recorder::undecoded_of(end), slots);
+    raise_recorded(image, &map, recorder::undecoded_of(end), slots);
 }
 
 // Raises each slot by the weight of its address: how many entries record it, each in a walk of its own.
-pub fn fill_weights(image: &[u8], bounds: Bounds, entries: &[u16], slots: &mut [u64])
-    requires { Lies image.now bounds.load bounds.last }
-    ensures { Filled image.now bounds.load bounds.last entries.now slots.old slots.new }
+pub fn fill_weights(image: Image<'_>, entries: &[u16], slots: &mut [u64])
+    ensures { Filled image.entry.bytes.now image.entry.bounds.load image.entry.bounds.last entries.now slots.old slots.new }
 {
-    let mut i = entries.len();
-    while i > 0 {
-        i -= 1;
-        let next = i + 1;
-        count_entry(image, bounds, &entries[i..next], slots);
+    for &entry in entries {
+        count_entry(image, entry, slots);
     }
 }

@@ -1,5 +1,5 @@
 -- Which instructions write to memory outside zero page and the stack, and how wide, from the manual's rows (01, "Tracker and stores"). Assumes nothing.
-use Rattle.std.specs.Prelude.{Bool, cond, ◌||◌, List, [], ◌∷◌, ℕ, get_or}
+use Rattle.std.specs.Prelude.{Bool, cond, ◌||◌, ℕ}
 use Rattle.std.proofs.Math.Option.{Option, none, some}
 use Prim.Native.String.{String}
 use lib.Text.{eqt}
@@ -29,24 +29,11 @@ width_of zeroPageY = None
 width_of indirect = None
 width_of relative = None
 
+-- what the instruction of a row writes; an opcode without a row writes nothing
 abbrev pub written_by : Option Row → Wr
 written_by none = None
 written_by (some (row name addressing op)) = cond (is_writer name) (width_of addressing) None
 
+-- what the instruction of an opcode writes
 unfoldable pub manual_writes : ℕ → Wr
 manual_writes op = written_by (row_of manual op)
-
--- ── as one number ──
--- the places in `Wr`, up to the last, and the one at a place
-abbrev pub widths : List Wr
-widths = None ∷ One ∷ Page ∷ IndY ∷ []
-
-abbrev pub width_at : ℕ → Wr
-width_at n = get_or widths n IndX
-
-abbrev pub place_of : Wr → ℕ
-place_of None = 0
-place_of One = 1
-place_of Page = 2
-place_of IndY = 3
-place_of IndX = 4

@@ -1,24 +1,26 @@
 -- `bench_cases::put_counted` meets its contract: both lines are short.
-use Rattle.std.proofs.Common.{◌+◌, ◌≤◌, arith}
-use Rattle.lists.specs.Text.{ascii}
-use Rattle.report.proofs.Lengths.{number_length, span_length}
+use mathlib.Core.Path.{ap}
+use lib.ListN.{length, length-append}
+use Rattle.std.proofs.Common.{arith}
+use Rattle.text.proofs.Digits.{decimal_fits}
+use Rattle.report.proofs.Lengths.{span_length}
 use Rattle.bench_cases.proofs.put_counted.Goals as goal
-use Rattle.bench_cases.proofs.put_counted.Goals.{After-put_span-next}
 
--- after the span's line
-span_within : (c : After-put_span-next) → c.put_span-next.result ≤ c.args.n + 40
-span_within c = omega (arith, span_length c.args.call.now c.args.answer c.requires.0)
-
-pub put_span-next-requires : goal.put_span-next-requires
-put_span-next-requires c = record { fits = omega (arith, span_length c.args.call.now c.args.answer c.requires.0) }
+pub put_span-requires : goal.put_span-requires
+put_span-requires c = (omega arith, omega (arith, span_length c.args.call.now c.args.answer c.requires.0))
 
 pub put_number-requires : goal.put_number-requires
-put_number-requires c = record {
-  fits = omega (arith, span_within (goal.at.put_number-requires c).After-put_span-next, number_length (ascii "COUNT") c.in-Given.s.count);
-}
+put_number-requires c =
+    let span = simp length-append at (ap length c.put_span.ensures) in
+    let line = span_length c.args.call.now c.args.answer c.requires.0 in
+    (omega arith, simp length-append (omega (arith, span, line, decimal_fits 20 c.in-Ok.s.count)))
 
-pub returns-in-Given : goal.returns-in-Given
-returns-in-Given c = omega (arith, span_within (goal.at.returns-in-Given c).After-put_span-next, number_length (ascii "COUNT") c.in-Given.s.count)
+pub returns-in-Ok : goal.returns-in-Ok
+returns-in-Ok c =
+    let span = simp length-append at (ap length c.put_span.ensures) in
+    let line = span_length c.args.call.now c.args.answer c.requires.0 in
+    omega (arith, span, line, simp length-append at (ap length c.put_number.ensures), decimal_fits 20 c.in-Ok.s.count)
 
-pub returns : goal.returns
-returns c = omega (arith, span_within (goal.at.returns c).After-put_span-next)
+pub returns-in_default : goal.returns-in_default
+returns-in_default c =
+    omega (arith, simp length-append at (ap length c.put_span.ensures), span_length c.args.call.now c.args.answer c.requires.0)

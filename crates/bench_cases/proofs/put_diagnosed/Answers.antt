@@ -1,4 +1,6 @@
 -- `bench_cases::put_diagnosed` meets its contract: an answer tells of no more records than the list has slots.
+use mathlib.Core.Path.{ap}
+use lib.ListN.{length-append}
 use Rattle.std.proofs.Common.{◌≤◌, arith, length, replicate}
 use Rattle.report.specs.Lines.{diag_lines}
 use Rattle.report.specs.Report.{Enough}
@@ -17,7 +19,7 @@ short c = omega (arith, diag_length c.diagnose-answer.result c.diagnose-answer.n
 pub put_diag-requires : goal.put_diag-requires
 put_diag-requires c =
     let called = (goal.at.put_diag-requires c).After-diagnose-answer in
-    (record { fits = omega (arith, short called) }, enough called)
+    (omega arith, (omega (arith, short called), enough called))
 
 pub returns : goal.returns
-returns c = omega (arith, short (goal.at.returns c).After-diagnose-answer)
+returns c = omega (arith, simp length-append at (ap length c.put_diag.ensures), short (goal.at.returns c).After-diagnose-answer)

@@ -1,4 +1,6 @@
 -- `bench_cases::put_stored` meets its contract: an answer tells of no more records than the list has slots.
+use mathlib.Core.Path.{ap}
+use lib.ListN.{length-append}
 use Rattle.std.proofs.Common.{◌≤◌, arith, length, replicate}
 use Rattle.report.specs.Lines.{stores_lines}
 use Rattle.report.specs.Report.{EnoughStores}
@@ -17,7 +19,7 @@ short c = omega (arith, stores_length c.write_extent-answer.result c.write_exten
 pub put_extent-requires : goal.put_extent-requires
 put_extent-requires c =
     let called = (goal.at.put_extent-requires c).After-write_extent-answer in
-    (record { fits = omega (arith, short called) }, enough called)
+    (omega arith, (omega (arith, short called), enough called))
 
 pub returns : goal.returns
-returns c = omega (arith, short (goal.at.returns c).After-write_extent-answer)
+returns c = omega (arith, simp length-append at (ap length c.put_extent.ensures), short (goal.at.returns c).After-write_extent-answer)

@@ -1,13 +1,7 @@
--- What each turn of `extent::over_entries` keeps.
-use mathlib.Core.Path.{◌≡◌}
-use Prim.Native.Nat.{◌-◌, ◌≤◌}
-use lib.ListN.{length, drop}
+-- What each turn of `extent::over_entries` keeps: the entries so far have been taken in.
+use Rattle.std.proofs.Common.{◌≡◌, take}
 use Rattle.extent.specs.Extent.{over_entries}
 use Rattle.extent.proofs.over_entries.Given as goal
 
-abbrev pub invariant-loop-i : goal.invariant-loop-i
-invariant-loop-i l =
-    (l.i ≤ length l.entries) × (over_entries l.bounds.load l.bounds.last (drop l.i l.entries) l.e ≡ over_entries l.bounds.load l.bounds.last l.entries l.initial.e)
-
-abbrev pub decreases-loop-i : goal.decreases-loop-i
-decreases-loop-i l = length l.entries - l.i
+abbrev pub invariant-loop-x : goal.invariant-loop-x
+invariant-loop-x l = l.e ≡ over_entries l.bounds.load l.bounds.last (take l.x-index l.entries) l.initial.e

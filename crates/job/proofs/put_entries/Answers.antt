@@ -17,42 +17,44 @@ module _ (out entries : List ℕ) (i : ℕ) (room : 16 + 2 * length entries ≤ 
   kept : length (placed out 16 (words_of (take i entries))) ≡ length out
   kept = placed_length out 16 (words_of (take i entries)) (omega (arith, put))
 
-  one_more : {now now' : List ℕ} → i < length entries → now ≡ placed out 16 (words_of (take i entries))
-      → now' ≡ placed now (16 + 2 * i) (bytes16 (get_or entries i 0)) → now' ≡ placed out 16 (words_of (take (i + 1) entries))
-  one_more k first second =
+  one_more : {now now' : List ℕ} (n : ℕ) → n ≡ 16 + 2 * i → i < length entries → now ≡ placed out 16 (words_of (take i entries))
+      → now' ≡ placed now n (bytes16 (get_or entries i 0)) → now' ≡ placed out 16 (words_of (take (i + 1) entries))
+  one_more n at k first second =
       rw (words_of_more entries i k)
-      (placed_next out 16 (words_of (take i entries)) (omega (arith, put)) (16 + 2 * i) _ (omega (arith, put)) first second)
+      (placed_next out 16 (words_of (take i entries)) (omega (arith, put)) n _ (omega (arith, put)) first second)
 
-pub loop-i-init : goal.loop-i-init
+pub loop-e-init : goal.loop-e-init
 unfolding words_of
-loop-i-init c = (omega arith, paste-zero c.args.out.now 16 [])
+loop-e-init c = (omega arith, paste-zero c.args.out.now 16 [])
 
 pub put16-requires : goal.put16-requires
 put16-requires c =
     let args = c.args in
-    omega (arith, ap length c.loop-i.invariant.1 ∙ kept args.out.now args.entries.now c.loop-i.i (omega arith) (omega arith))
+    omega (arith, ap length c.loop-e.invariant.1 ∙ kept args.out.now args.entries.now c.loop-e.e-index (omega arith) (omega arith))
 
-pub loop-i-preserved : goal.loop-i-preserved
-loop-i-preserved c = let args = c.args in (
+pub loop-e-preserved : goal.loop-e-preserved
+loop-e-preserved c = let args = c.args in (
   omega arith,
   one_more
       args.out.now
       args.entries.now
-      c.loop-i.i
+      c.loop-e.e-index
       (omega arith)
       (omega arith)
+      c.loop-e.n
       (omega arith)
-      c.loop-i.invariant.1
+      (omega arith)
+      c.loop-e.invariant.1
       c.put16.ensures,
 )
 
 pub shape_of-out : goal.shape_of-out
 shape_of-out c =
     let args = c.args in
-    ap length c.loop-i.invariant.1 ∙ kept args.out.now args.entries.now c.loop-i.i (omega arith) (omega arith)
+    ap length c.loop-e.invariant.1 ∙ kept args.out.now args.entries.now c.loop-e.e-index (omega arith) (omega arith)
 
 pub returns : goal.returns
 returns c =
     let args = c.args in
-    let all : c.loop-i.i ≡ length args.entries.now = omega arith in
-    rw (all, take-length) at c.loop-i.invariant.1
+    let all : c.loop-e.e-index ≡ length args.entries.now = omega arith in
+    rw (all, take-length) at c.loop-e.invariant.1

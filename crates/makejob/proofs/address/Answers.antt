@@ -1,44 +1,45 @@
 -- `makejob::address` meets its contract: each digit that is read leaves the spelled address as it was, and what ends the word early makes it none.
-use Rattle.std.proofs.Common.{◌≡◌, ◌+◌, ◌*◌, arith, drop, sym, ◌∙◌}
-use borrow.Author.Tests.{le-leb}
-use Rattle.makejob.specs.Words.{address_from, address_of}
-use Rattle.makejob.proofs.Digits.{spelled, past_top, one_more, no_digit, at_end}
+use Rattle.std.proofs.Common.{◌≡◌, ◌+◌, ◌-◌, arith, length, get_or, drop, sym, ap, ◌∙◌}
+use lib.Seq.{get_or-take, get_or-drop}
+use Rattle.makejob.specs.Words.{digit_of}
+use Rattle.makejob.proofs.Digits.{past_top, one_more, no_digit, at_end}
 use Rattle.makejob.proofs.address.Goals as goal
-use Rattle.makejob.proofs.address.Goals.{At-loop-i, Else-d-gt15}
+use Rattle.makejob.proofs.address.Goals.{After-digit}
 
--- what is still to be read decides
-so_far : (c : At-loop-i) → address_of c.args.word.now ≡ address_from c.loop-i.value (drop c.loop-i.i c.args.word.now)
-so_far c = spelled c.args.word.now _ c.mark-from.ensures c.if-word-from.false ∙ c.loop-i.invariant.so_far
+-- the byte that is read stands in the word itself
+here : (c : After-digit) → c.digit.result ≡ digit_of (get_or c.args.word.now (c.mark-from.result + c.loop-c.c-index) 0)
+here c =
+    let rest = drop c.mark-from.result c.args.word.now in
+    let taken = get_or-take (length c.args.word.now - c.mark-from.result) rest c.loop-c.c-index 0 (omega arith) in
+    c.digit.ensures ∙ ap digit_of (taken ∙ get_or-drop c.mark-from.result c.args.word.now c.loop-c.c-index 0)
 
--- one digit more is read
-with_digit : (c : Else-d-gt15)
-    → address_from c.loop-i.value (drop c.loop-i.i c.args.word.now)
-    ≡ address_from (16 * c.loop-i.value + c.digit-d.result) (drop (c.loop-i.i + 1) c.args.word.now)
-with_digit c = one_more c.args.word.now c.loop-i.value c.loop-i.i _ (omega arith) c.digit-d.ensures (omega arith)
-
-pub returns-then-word-from : goal.returns-then-word-from
-returns-then-word-from c = rw (← c.mark-from.ensures, le-leb _ _ c.if-word-from.true)
-
-pub returns-then-d-gt15 : goal.returns-then-d-gt15
-returns-then-d-gt15 c =
-    sym
-    (so_far (goal.at.returns-then-d-gt15 c).At-loop-i
-    ∙ no_digit c.args.word.now c.loop-i.value c.loop-i.i _ (omega arith) c.digit-d.ensures (omega arith))
+pub returns-in_err-d : goal.returns-in_err-d
+returns-in_err-d c =
+    let none = sym (here (goal.at.returns-in_err-d c).After-digit) ∙ c.in_err-d.was in
+    c.from_residual.ensures
+    ∙ sym (no_digit c.args.word.now c.loop-c.value (c.mark-from.result + c.loop-c.c-index) (omega arith) none)
+    ∙ c.loop-c.invariant.so_far
 
 pub returns-then-value-gt65535 : goal.returns-then-value-gt65535
 returns-then-value-gt65535 c =
-    let place = goal.at.returns-then-value-gt65535 c in
-    sym (so_far place.At-loop-i ∙ with_digit place.Else-d-gt15 ∙ past_top _ _ (omega arith))
+    let some = sym (here (goal.at.returns-then-value-gt65535 c).After-digit) ∙ c.in_ok-d.was in
+    let next = c.mark-from.result + (c.loop-c.c-index + 1) in
+    let with_digit =
+    one_more c.args.word.now c.loop-c.value (c.mark-from.result + c.loop-c.c-index) (omega arith) c.in_ok-d.d next (omega arith) some in
+    sym (sym c.loop-c.invariant.so_far ∙ with_digit ∙ past_top _ _ (omega arith))
 
-pub loop-i-preserved : goal.loop-i-preserved
-loop-i-preserved c = record {
-  within = omega arith;
-  fits = omega arith;
-  so_far = c.loop-i.invariant.so_far ∙ with_digit (goal.at.loop-i-preserved c).Else-d-gt15;
-}
+pub loop-c-preserved : goal.loop-c-preserved
+loop-c-preserved c =
+    let some = sym (here (goal.at.loop-c-preserved c).After-digit) ∙ c.in_ok-d.was in
+    let next = c.mark-from.result + (c.loop-c.c-index + 1) in
+    let with_digit =
+    one_more c.args.word.now c.loop-c.value (c.mark-from.result + c.loop-c.c-index) (omega arith) c.in_ok-d.d next (omega arith) some in
+    record {
+      fits = omega arith;
+      so_far = sym with_digit ∙ c.loop-c.invariant.so_far;
+    }
 
 pub returns : goal.returns
 returns c =
-    sym
-    (so_far (goal.at.returns c).At-loop-i
-    ∙ at_end c.args.word.now c.loop-i.value c.loop-i.i (omega arith) (omega arith))
+    sym (at_end c.args.word.now c.loop-c.value (c.mark-from.result + c.loop-c.c-index) (omega arith) (omega arith))
+    ∙ c.loop-c.invariant.so_far

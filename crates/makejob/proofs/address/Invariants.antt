@@ -1,11 +1,10 @@
 -- The number so far and the digits still to be read spell what the whole word does.
-use Rattle.std.proofs.Common.{◌≡◌, ◌<◌, ◌≤◌, length, drop}
-use Rattle.makejob.specs.Words.{address_from}
+use Rattle.std.proofs.Common.{◌≡◌, ◌+◌, ◌<◌, drop}
+use Rattle.makejob.specs.Words.{address_from, address_of}
 use Rattle.makejob.proofs.address.Given as goal
 
-abbrev pub invariant-loop-i : goal.invariant-loop-i
-invariant-loop-i l = record {
-  within : l.i ≤ length l.word;
+abbrev pub invariant-loop-c : goal.invariant-loop-c
+invariant-loop-c l = record {
   fits : l.value < 65536;
-  so_far : address_from 0 (drop l.from l.word) ≡ address_from l.value (drop l.i l.word);
+  so_far : address_from l.value (drop (l.from + l.c-index) l.word) ≡ address_of l.word;
 }

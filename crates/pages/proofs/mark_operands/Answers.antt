@@ -1,77 +1,64 @@
--- `pages::mark_operands` meets its contract. The loop's invariant: a byte is marked now, or the operand of a member from `from` on, just where it is
--- the operand of one of them all.
-use Rattle.std.proofs.Common.{◌≡◌, ℕ, ◌+◌, Bool, true, false, ◌||◌, sym, refl, ◌∙◌, arith}
-use Rattle.address_set.specs.Next.{Least}
-use Rattle.address_set.proofs.Laws.{found_least}
-use Rattle.pages.specs.Pages.{is_on}
+-- `pages::mark_operands` meets its contract: the operand of the member that the iterator gives is marked, and the others stay as they were.
+use Rattle.std.proofs.Common.{◌≡◌, ℕ, ◌<◌, Bool, true, false, ◌||◌, List, length, slice_set, Some, sym, refl, ◌∙◌, arith, length-set, get_or-set_other, get_or-set_same, eq-eqb, ne_eqb}
+use native.Mathlib.Decide.{ℕ_discrete}
+use Rattle.resolver.specs.Resolve.{is_value}
+use Rattle.pages.specs.Pages.{any_of}
 use Rattle.pages.specs.Surveys.{is_marked}
-use Rattle.pages.proofs.Members.{any_next, any_end}
-use Rattle.pages.proofs.mark_operands.Invariants.{named_from}
+use Rattle.pages.proofs.Arrays.{filled_at}
 use Rattle.pages.proofs.mark_operands.Goals as goal
-use Rattle.pages.proofs.mark_operands.Goals.{After-mark, At-loop-a, In-At, Start}
+
+or_true : (b : Bool) → (b || true) ≡ true
+or_true true = refl
+or_true false = refl
+
+or_none : (b : Bool) → (b || false) ≡ b
+or_none true = refl
+or_none false = refl
+
+-- a byte z is marked
+marked : (marks : List Bool) (z y : ℕ) (rest : Bool) → z < length marks
+    → (is_marked (slice_set marks z true) y || rest) ≡ (is_marked marks y || (is_value (Some z) y || rest))
+marked marks z y rest h = at (ℕ_discrete y z)
+  where
+    at : Dec (y ≡ z) → (is_marked (slice_set marks z true) y || rest) ≡ (is_marked marks y || (is_value (Some z) y || rest))
+    at (yes e) = rw (e, get_or-set_same marks z true false h, eq-eqb z z refl) (sym (or_true (is_marked marks z)))
+    at (no n) = rw (get_or-set_other marks z y true false n, ne_eqb z y (λ e. n (sym e)))
 
 pub loop-a-init : goal.loop-a-init
-loop-a-init c =
-    let blank = c.requires in
-    (omega arith, blank.size, λ z. rw (blank.none z))
+loop-a-init c = record {
+  size = refl;
+  each = λ z. rw (c.into_iter-a-iterator.ensures.into_iter_gives, c.members_in-a-items.ensures, filled_at 256 z false);
+}
 
-or_none : (m : Bool) {rest : Bool} → rest ≡ false → (m || rest) ≡ m
-or_none true e = refl
-or_none false e = e
+pub loop-a-preserved-in-Some-argument_at : goal.loop-a-preserved-in-Some-argument_at
+unfolding any_of
+loop-a-preserved-in-Some-argument_at c = record {
+  size = omega (arith, c.loop-a.invariant.size, length-set c.loop-a.marks c.in-Some-argument_at.z true);
+  each = λ z.
+      let named = sym c.argument_at.ensures ∙ c.in-Some-argument_at.is in
+      let kept = rw (sym c.is_op.ensures ∙ c.if-is_op.true, named) at (rw c.in-Some.ensures.steps at c.loop-a.invariant.each z) in
+      marked c.loop-a.marks c.in-Some-argument_at.z z _ (omega (arith, c.loop-a.invariant.size)) ∙ kept;
+}
 
-pub returns-in_default : goal.returns-in_default
-returns-in_default c =
-    let known = c.loop-a in
-    record {
-      size = known.invariant.1;
-      each = λ z. sym (or_none _ (any_end _ _ _ c.next_in.ensures _ c.in_default.is)) ∙ known.invariant.2 z;
-    }
-
-or_swap : (here marked rest : Bool) → ((here || marked) || rest) ≡ (marked || (here || rest))
-or_swap true true rest = refl
-or_swap true false rest = refl
-or_swap false marked rest = refl
-
--- in a turn that found an address
-module _ (c : In-At) where
-  abbrev a : ℕ
-  a = c.in-At.a
-
-  abbrev turn : At-loop-a
-  turn = (goal.at.In-At c).At-loop-a
-
-  abbrev start : Start
-  start = (goal.at.At-loop-a turn).Start
-
-  least : Least start.args.map.now turn.loop-a.from start.args.bounds.last a
-  least = found_least _ _ _ c.next_in.ensures c.in-At.is
-
-  abbrev named_from_here : (z from : ℕ) → Bool
-  named_from_here = named_from start.args.image.now start.args.map.now start.args.op start.args.bounds.load start.args.bounds.last
-
-  abbrev named_here : ℕ → Bool
-  named_here z = is_on start.args.image.now start.args.bounds.load start.args.op z a
-
-  rest : (z : ℕ) (marked : Bool) → ((named_here z || marked) || named_from_here z (a + 1)) ≡ (marked || named_from_here z turn.loop-a.from)
-  rest z marked =
-      rw (any_next _ _ _ c.next_in.ensures (is_on _ _ _ z) c.in-At.is) (or_swap (named_here z) marked (named_from_here z (a + 1)))
-
--- from a turn's end, where the address was found
-abbrev found : After-mark → In-At
-found c = (goal.at.After-mark c).In-At
-
-pub overflow_cast-from-in-loop-a : goal.overflow_cast-from-in-loop-a
-overflow_cast-from-in-loop-a c = omega (arith, least (found c))
-
-pub overflow_add-from : goal.overflow_add-from
-overflow_add-from c = omega (arith, least (found c))
-
-pub loop-a-smaller : goal.loop-a-smaller
-loop-a-smaller c = omega (arith, least (found c))
+pub loop-a-preserved-in_default : goal.loop-a-preserved-in_default
+unfolding any_of
+loop-a-preserved-in_default c = record {
+  size = c.loop-a.invariant.size;
+  each = λ z.
+      let absent = sym c.argument_at.ensures ∙ c.in_default.is in
+      rw (sym c.is_op.ensures ∙ c.if-is_op.true, absent) at (rw c.in-Some.ensures.steps at c.loop-a.invariant.each z);
+}
 
 pub loop-a-preserved : goal.loop-a-preserved
-loop-a-preserved c = let known = c.loop-a in (
-  omega (arith, least (found c)),
-  c.mark.ensures.size ∙ known.invariant.1,
-  λ z. rw (c.mark.ensures.each z, c.argument_at.ensures, c.is_op-here.ensures) (rest (found c) z (is_marked known.marks z) ∙ known.invariant.2 z),
-)
+unfolding any_of
+loop-a-preserved c = record {
+  size = c.loop-a.invariant.size;
+  each = λ z. rw (sym c.is_op.ensures ∙ c.if-is_op.false) at (rw c.in-Some.ensures.steps at c.loop-a.invariant.each z);
+}
+
+pub returns : goal.returns
+unfolding any_of
+returns c = record {
+  size = c.loop-a.invariant.size;
+  each = λ z. sym (or_none _) ∙ (rw c.in-None.ensures.steps.0 at c.loop-a.invariant.each z);
+}

@@ -1,70 +1,110 @@
--- `pages::note_limits` meets its contract. The loop's invariant: of each byte, what the pairs from `from` on say, after what the arrays hold now, is what all
--- pairs say of it.
-use Rattle.std.proofs.Common.{◌≡◌, ℕ, ◌+◌, cond, ◌∙◌, arith}
+-- `pages::note_limits` meets its contract: a pair at the member that the iterator gives counts for the byte that it loads, and the others stay as they were.
+use Rattle.std.proofs.Common.{◌≡◌, ℕ, ◌<◌, Bool, true, false, cond, ◌&&◌, List, ◌∷◌, length, slice_set, Some, None, sym, refl, ap, ◌∙◌, arith, get_or-set_other, get_or-set_same, eq-eqb, ne_eqb}
+use native.Mathlib.Decide.{ℕ_discrete}
 use Rattle.address_set.specs.Map.{has}
-use Rattle.address_set.specs.Next.{Least}
-use Rattle.address_set.proofs.Laws.{found_least, next_at, next_nothing}
 use Rattle.resolver.specs.declared.Seen.{Seen}
-use Rattle.pages.specs.Pages.{is_on, compared_at, seen_also, limit_over}
-use Rattle.pages.proofs.note_limits.Invariants.{onward}
+use Rattle.resolver.specs.declared.Seen.TheVariants.{Never}
+use Rattle.resolver.specs.Resolve.{argument_at, is_value, seen_at, seen_with}
+use Rattle.pages.specs.Pages.{is_op, is_on, compared_at, seen_also, limit_over}
+use Rattle.pages.proofs.Arrays.{filled_at}
 use Rattle.pages.proofs.note_limits.Goals as goal
-use Rattle.pages.proofs.note_limits.Goals.{After-limit, At-loop-a, In-At, Start}
+
+-- one more value for the byte z
+module _ (limits : List Seen) (z y v : ℕ) (h : z < length limits) where
+  noted : seen_at (slice_set limits z (seen_with (seen_at limits z) (Some v))) y
+      ≡ cond (is_value (Some z) y) (seen_with (seen_at limits y) (Some v)) (seen_at limits y)
+  noted = at (ℕ_discrete y z)
+    where
+      at : Dec (y ≡ z)
+          → seen_at (slice_set limits z (seen_with (seen_at limits z) (Some v))) y
+          ≡ cond (is_value (Some z) y) (seen_with (seen_at limits y) (Some v)) (seen_at limits y)
+      at (yes e) = rw (e, get_or-set_same limits z (seen_with (seen_at limits z) (Some v)) Never h, eq-eqb z z refl)
+      at (no n) = rw (get_or-set_other limits z y (seen_with (seen_at limits z) (Some v)) Never n, ne_eqb z y (λ e. n (sym e)))
+
+-- an instruction at `a` is passed, before which s is known of the byte z
+module _ (image : List ℕ) (load : ℕ) (met : ℕ → Bool) (a : ℕ) (rest : List ℕ) (z : ℕ) (s : Seen) {all : Seen}
+    (kept : limit_over image load met z (a ∷ rest) s ≡ all) where
+  turn : {s' : Seen} → cond (is_on image load 0xA5 z a) (seen_also s (compared_at image load met a)) s ≡ s' → limit_over image load met z rest s' ≡ all
+  unfolding limit_over
+  turn e = ap (limit_over image load met z rest) (sym e) ∙ kept
+
+  no_load : is_op image load 0xA5 a ≡ false → limit_over image load met z rest s ≡ all
+  no_load e = turn (rw e)
+
+  no_operand : argument_at image load a ≡ None → limit_over image load met z rest s ≡ all
+  no_operand e = turn (rw e (by (is_op image load 0xA5 a)))
+    where
+      by : (b : Bool) → cond (b && false) (seen_also s (compared_at image load met a)) s ≡ s
+      by true = refl
+      by false = refl
+
+  not_compared : compared_at image load met a ≡ None → limit_over image load met z rest s ≡ all
+  not_compared e = turn (rw e (by (is_on image load 0xA5 z a)))
+    where
+      by : (b : Bool) → cond b s s ≡ s
+      by true = refl
+      by false = refl
+
+  compared : {y v : ℕ} → is_op image load 0xA5 a ≡ true → argument_at image load a ≡ Some y → compared_at image load met a ≡ Some v
+      → limit_over image load met z rest (cond (is_value (Some y) z) (seen_with s (Some v)) s) ≡ all
+  compared e f g = turn (rw (e, f, g))
 
 pub loop-a-init : goal.loop-a-init
-loop-a-init c =
-    let blank = c.requires.0 in
-    (omega arith, blank.size, c.requires.1, λ z. rw (blank.none z))
+loop-a-init c = record {
+  size = refl;
+  each = λ z. rw (c.into_iter-a-iterator.ensures.into_iter_gives, c.members_in-a-items.ensures, filled_at 256 z Never);
+}
 
-pub returns-in_default : goal.returns-in_default
-unfolding limit_over
-returns-in_default c =
+pub loop-a-preserved-in-Some-compared_at : goal.loop-a-preserved-in-Some-compared_at
+loop-a-preserved-in-Some-compared_at c =
+    let image = c.args.image.now in
+    let load = c.args.bounds.load in
     let known = c.loop-a in
-    let none_left = next_nothing _ _ _ c.next_in.ensures c.in_default.is in
-    record { states_size = known.invariant.1; values_size = known.invariant.2; each = λ z. rw none_left at (known.invariant.3 z) }
+    record {
+      size = c.note.array_long;
+      each = λ z.
+          let kept = rw c.in-Some.ensures.steps at known.invariant.each z in
+          rw (c.note.ensures, noted known.limits c.in-Some-argument_at.z z c.in-Some-compared_at.v (omega (arith, known.invariant.size)))
+          (compared image load (has c.args.map.now) c.in-Some.a _ z (seen_at known.limits z) kept (sym c.is_op.ensures ∙ c.if-is_op.true)
+          (sym c.argument_at.ensures ∙ c.in-Some-argument_at.is) (sym c.compared_at.ensures ∙ c.in-Some-compared_at.is));
+    }
 
--- in a turn that found an address
-module _ (c : In-At) where
-  abbrev a : ℕ
-  a = c.in-At.a
+pub loop-a-preserved-in_default-compared_at : goal.loop-a-preserved-in_default-compared_at
+loop-a-preserved-in_default-compared_at c =
+    let image = c.args.image.now in
+    let load = c.args.bounds.load in
+    let known = c.loop-a in
+    record {
+      size = known.invariant.size;
+      each = λ z.
+          let kept = rw c.in-Some.ensures.steps at known.invariant.each z in
+          not_compared image load (has c.args.map.now) c.in-Some.a _ z (seen_at known.limits z) kept (sym c.compared_at.ensures ∙ c.in_default-compared_at.is);
+    }
 
-  abbrev turn : At-loop-a
-  turn = (goal.at.In-At c).At-loop-a
-
-  abbrev start : Start
-  start = (goal.at.At-loop-a turn).Start
-
-  least : Least start.args.map.now turn.loop-a.from start.args.bounds.last a
-  least = found_least _ _ _ c.next_in.ensures c.in-At.is
-
-  abbrev onward_from : (z from : ℕ) → Seen → Seen
-  onward_from = onward start.args.image.now start.args.map.now start.args.bounds.load start.args.bounds.last
-
-  rest : (z : ℕ) (s : Seen) →
-      let image = start.args.image.now in
-      let load = start.args.bounds.load in
-      onward_from z (a + 1) (cond (is_on image load 0xA5 z a) (seen_also s (compared_at image load (has start.args.map.now) a)) s) ≡ onward_from z turn.loop-a.from s
-  unfolding limit_over
-  rest z s = rw (next_at _ _ _ c.next_in.ensures c.in-At.is)
-
--- from a turn's end, where the address was found
-abbrev found : After-limit → In-At
-found c = (goal.at.After-limit c).In-At
-
-pub overflow_cast-from-in-loop-a : goal.overflow_cast-from-in-loop-a
-overflow_cast-from-in-loop-a c = omega (arith, least (found c))
-
-pub overflow_add-from : goal.overflow_add-from
-overflow_add-from c = omega (arith, least (found c))
-
-pub loop-a-smaller : goal.loop-a-smaller
-loop-a-smaller c = omega (arith, least (found c))
+pub loop-a-preserved-in_default : goal.loop-a-preserved-in_default
+loop-a-preserved-in_default c =
+    let image = c.args.image.now in
+    let load = c.args.bounds.load in
+    let known = c.loop-a in
+    record {
+      size = known.invariant.size;
+      each = λ z.
+          let kept = rw c.in-Some.ensures.steps at known.invariant.each z in
+          no_operand image load (has c.args.map.now) c.in-Some.a _ z (seen_at known.limits z) kept (sym c.argument_at.ensures ∙ c.in_default.is);
+    }
 
 pub loop-a-preserved : goal.loop-a-preserved
 loop-a-preserved c =
+    let image = c.args.image.now in
+    let load = c.args.bounds.load in
     let known = c.loop-a in
-    let now = c.limit.ensures in (
-      omega (arith, least (found c)),
-      now.states_size ∙ known.invariant.1,
-      now.values_size ∙ known.invariant.2,
-      λ z. rw (now.each z, c.compared_at.ensures, c.argument_at-argument.ensures, c.is_op-lda.ensures) (rest (found c) z _ ∙ known.invariant.3 z),
-    )
+    record {
+      size = known.invariant.size;
+      each = λ z.
+          let kept = rw c.in-Some.ensures.steps at known.invariant.each z in
+          no_load image load (has c.args.map.now) c.in-Some.a _ z (seen_at known.limits z) kept (sym c.is_op.ensures ∙ c.if-is_op.false);
+    }
+
+pub returns : goal.returns
+unfolding limit_over
+returns c = record { size = c.loop-a.invariant.size; each = λ z. rw c.in-None.ensures.steps.0 at c.loop-a.invariant.each z }

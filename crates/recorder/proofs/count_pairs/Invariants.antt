@@ -1,14 +1,13 @@
--- What each turn of `recorder::count_pairs` keeps.
+-- What each turn of `recorder::count_pairs` keeps: the pairs counted and those of the members that are left are all pairs.
 use mathlib.Core.Path.{◌≡◌}
-use Prim.Native.Nat.{suc, ◌+◌, ◌-◌, ◌*◌, ◌≤◌}
+use Prim.Native.Nat.{◌+◌}
 use lib.ListN.{length}
-use Rattle.recorder.proofs.Members.{pairs_from}
+use Rattle.address_set.specs.Map.{members_in}
+use Rattle.address_set.specs.Next.{left}
+use Rattle.recorder.proofs.Members.{pairs}
 use Rattle.recorder.proofs.count_pairs.Given as goal
 
 abbrev pub invariant-loop-a : goal.invariant-loop-a
 invariant-loop-a l =
-    let pairs = pairs_from l.image l.bounds.load l.bounds.last l.undecoded l.map in
-    (l.n ≤ 2 * l.from) × (l.n + length (pairs l.from) ≡ length (pairs 0))
-
-abbrev pub decreases-loop-a : goal.decreases-loop-a
-decreases-loop-a l = suc 0xFFFF - l.from
+    let all = pairs l.image.bytes.now l.image.bounds.load l.image.bounds.last l.undecoded in
+    l.n + length (all (left l.a-iterator)) ≡ length (all (members_in l.fn.range.load l.fn.range.last l.map))

@@ -1,10 +1,9 @@
 -- `recorder::put` meets its contract: the causes are none, one or two, and each is written into the next slot.
 use mathlib.Core.Path.{◌≡◌, refl, ◌∙◌}
-use mathlib.Core.List.{List, []}
+use mathlib.Core.List.{List}
 use Prim.Native.Nat.{ℕ, ◌+◌, ◌≤◌}
 use native.Mathlib.Numerals.{add-one}
-use native.Mathlib.Omega.{arith}
-use lib.ListN.{length, length-map, length-set}
+use lib.ListN.{length, length-map}
 use lib.Seq.{sets, sets-eq}
 use Rattle.cause.specs.declared.RefusalCause.{RefusalCause}
 use Rattle.records.specs.Packed.{packed}
@@ -18,20 +17,6 @@ by_stores : {slots slots' : List ℕ} {n a r : ℕ} (causes : List RefusalCause)
 by_stores {slots} {n = n} {a = a} causes {f} room next stores =
     let size = length-map causes (λ (c : RefusalCause). packed (fields_with f (record { address = a; cause = c }))) in
     record { next = next; after = stores ∙ rw size at (sets-eq (records_with f a causes) slots n (rw size room)) }
-
-pub bounds-slots-n : goal.bounds-slots-n
-bounds-slots-n c = omega (arith, rw c.in-One.is at c.requires)
-
-pub bounds-slots-n-in-Two : goal.bounds-slots-n-in-Two
-bounds-slots-n-in-Two c = omega (arith, rw c.in-Two.is at c.requires)
-
-pub bounds-slots-n-in-Two-2 : goal.bounds-slots-n-in-Two-2
-bounds-slots-n-in-Two-2 c = simp length-set (omega (arith, rw c.in-Two.is at c.requires))
-
-pub returns-in-Clear : goal.returns-in-Clear
-returns-in-Clear c =
-    let told = c.in-Clear.is in
-    rw told (by_stores [] (rw told at c.requires) (omega arith) refl)
 
 pub returns-in-One : goal.returns-in-One
 returns-in-One c =

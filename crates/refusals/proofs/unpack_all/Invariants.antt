@@ -1,10 +1,7 @@
 -- What each turn of `refusals::unpack_all` keeps: the first i records stand over the structs that were lent.
-use Rattle.std.proofs.Common.{◌≡◌, ◌-◌, ◌≤◌, length, take}
+use Rattle.std.proofs.Common.{◌≡◌, take}
 use Rattle.refusals.specs.Refusals.{over}
 use Rattle.refusals.proofs.unpack_all.Given as goal
 
 abbrev pub invariant-loop-i : goal.invariant-loop-i
-invariant-loop-i l = (l.i ≤ length l.packed) × (l.out ≡ over (take l.i l.packed) l.initial.out)
-
-abbrev pub decreases-loop-i : goal.decreases-loop-i
-decreases-loop-i l = length l.packed - l.i
+invariant-loop-i l = l.out ≡ over (take l.i l.packed) l.initial.out

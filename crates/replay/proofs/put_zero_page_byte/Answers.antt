@@ -1,17 +1,23 @@
 -- `replay::put_zero_page_byte` meets its contract: a letter and two times two digits, each with the byte after it.
-use Rattle.std.proofs.Common.{arith, length-append}
+use mathlib.Core.Path.{ap}
+use lib.ListN.{length, length-append}
+use Rattle.std.proofs.Common.{arith}
 use Rattle.text.proofs.Digits.{hex_length}
 use Rattle.replay.proofs.put_zero_page_byte.Goals as goal
 
-pub put_hex-b-requires : goal.put_hex-b-requires
-put_hex-b-requires c = record { fits = simp (length-append, hex_length) (omega arith) }
-
 pub put_hex-requires : goal.put_hex-requires
-put_hex-requires c = record {
-  fits = simp (length-append, hex_length) (omega (arith, simp (length-append, hex_length) at c.put_hex-b.ensures.next));
-}
+put_hex-requires c =
+    let name = simp length-append at (ap length c.put_word.ensures) in
+    (omega arith, simp (length-append, hex_length) (omega (arith, name)))
 
-pub returns : goal.returns
-returns c =
-    omega
-    (arith, simp (length-append, hex_length) at c.put_hex-b.ensures.next, simp (length-append, hex_length) at c.put_hex.ensures.next)
+pub put_hex-requires-in-Some : goal.put_hex-requires-in-Some
+put_hex-requires-in-Some c =
+    let name = simp length-append at (ap length c.put_word.ensures) in
+    let address = simp (length-append, hex_length) at (ap length c.put_hex.ensures) in
+    (omega arith, simp (length-append, hex_length) (omega (arith, name, address)))
+
+pub returns-in-Some : goal.returns-in-Some
+returns-in-Some c =
+    let name = simp length-append at (ap length c.put_word.ensures) in
+    let address = simp (length-append, hex_length) at (ap length c.put_hex.ensures) in
+    omega (arith, name, address, simp (length-append, hex_length) at (ap length c.put_hex-in-Some.ensures))

@@ -1,20 +1,21 @@
--- `report::put_records` meets its contract. The loop's invariant: the lines of the first i records are put.
+-- `report::put_records` meets its contract: each turn appends the line of the next record.
+use mathlib.Core.List.{append_assoc, append-nil}
 use native.Mathlib.Omega.{arith}
+use borrow.Author.Rules.{rules}
 use Rattle.report.specs.Lines.{record_line}
-use Rattle.report.proofs.Listing.{lines_start, lines_all, lines_size, line_room, line_put}
+use Rattle.report.proofs.Listing.{lines_next, lines_end, line_room}
 use Rattle.report.proofs.put_records.Goals as goal
 
-pub loop-i-init : goal.loop-i-init
-loop-i-init c = (omega arith, lines_start record_line c.args.records.now c.args.out.now c.args.n)
+pub put_record-requires : goal.put_record-requires
+put_record-requires g c =
+    let loop = c.loop-r in
+    let args = c.args in
+    let room = line_room record_line args.records.now loop.out.items args.out.now.items loop.r-index g.row.N loop.invariant c.requires (omega arith) in
+    (search rules, room)
 
-pub put_record-at-requires : goal.put_record-at-requires
-put_record-at-requires c = line_room record_line c.args.records.now c.loop-i.i c.requires c.loop-i.invariant.1 (omega arith)
-
-pub loop-i-preserved : goal.loop-i-preserved
-loop-i-preserved c = (omega arith, line_put record_line c.args.records.now c.loop-i.i c.requires c.loop-i.invariant.1 (omega arith) c.put_record-at.ensures)
-
-pub shape_of-out : goal.shape_of-out
-shape_of-out c = lines_size record_line c.args.records.now c.loop-i.i c.requires c.loop-i.invariant.1
+pub loop-r-preserved : goal.loop-r-preserved
+loop-r-preserved g c =
+    rw (c.put_record.ensures, append_assoc) (rw (lines_next record_line c.args.records.now c.loop-r.r-index (omega arith)) at c.loop-r.invariant)
 
 pub returns : goal.returns
-returns c = rw (lines_all record_line c.args.records.now c.loop-i.i (omega arith)) at c.loop-i.invariant.1
+returns g c = rw (lines_end record_line c.args.records.now c.loop-r.r-index (omega arith), append-nil) at c.loop-r.invariant

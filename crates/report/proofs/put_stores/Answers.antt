@@ -1,20 +1,21 @@
--- `report::put_stores` meets its contract. The loop's invariant: the lines of the first i records are put.
+-- `report::put_stores` meets its contract: each turn appends the line of the next record.
+use mathlib.Core.List.{append_assoc, append-nil}
 use native.Mathlib.Omega.{arith}
+use borrow.Author.Rules.{rules}
 use Rattle.report.specs.Lines.{store_line}
-use Rattle.report.proofs.Listing.{lines_start, lines_all, lines_size, line_room, line_put}
+use Rattle.report.proofs.Listing.{lines_next, lines_end, line_room}
 use Rattle.report.proofs.put_stores.Goals as goal
 
-pub loop-i-init : goal.loop-i-init
-loop-i-init c = (omega arith, lines_start store_line c.args.records.now c.args.out.now c.args.n)
+pub put_store-requires : goal.put_store-requires
+put_store-requires g c =
+    let loop = c.loop-r in
+    let args = c.args in
+    let room = line_room store_line args.records.now loop.out.items args.out.now.items loop.r-index g.row.N loop.invariant c.requires (omega arith) in
+    (search rules, room)
 
-pub put_store-at-requires : goal.put_store-at-requires
-put_store-at-requires c = line_room store_line c.args.records.now c.loop-i.i c.requires c.loop-i.invariant.1 (omega arith)
-
-pub loop-i-preserved : goal.loop-i-preserved
-loop-i-preserved c = (omega arith, line_put store_line c.args.records.now c.loop-i.i c.requires c.loop-i.invariant.1 (omega arith) c.put_store-at.ensures)
-
-pub shape_of-out : goal.shape_of-out
-shape_of-out c = lines_size store_line c.args.records.now c.loop-i.i c.requires c.loop-i.invariant.1
+pub loop-r-preserved : goal.loop-r-preserved
+loop-r-preserved g c =
+    rw (c.put_store.ensures, append_assoc) (rw (lines_next store_line c.args.records.now c.loop-r.r-index (omega arith)) at c.loop-r.invariant)
 
 pub returns : goal.returns
-returns c = rw (lines_all store_line c.args.records.now c.loop-i.i (omega arith)) at c.loop-i.invariant.1
+returns g c = rw (lines_end store_line c.args.records.now c.loop-r.r-index (omega arith), append-nil) at c.loop-r.invariant

@@ -1,12 +1,9 @@
--- What each turn of `report::put_stores` keeps.
-use Prim.Native.Nat.{◌-◌, ◌≤◌}
-use lib.ListN.{length, take}
-use Rattle.text.specs.Text.{Put}
+-- What each turn of `report::put_stores` keeps: with the lines of the records that are left behind it, the text is what it is to be.
+use mathlib.Core.Path.{◌≡◌}
+use mathlib.Core.List.{◌++◌}
+use lib.ListN.{drop}
 use Rattle.report.specs.Lines.{store_line, lines}
 use Rattle.report.proofs.put_stores.Given as goal
 
-abbrev pub invariant-loop-i : goal.invariant-loop-i
-invariant-loop-i l = (l.i ≤ length l.records) × Put l.initial.out l.n (lines store_line (take l.i l.records)) l.at l.out
-
-abbrev pub decreases-loop-i : goal.decreases-loop-i
-decreases-loop-i l = length l.records - l.i
+abbrev pub invariant-loop-r : goal.invariant-loop-r
+invariant-loop-r g l = l.out.items ++ lines store_line (drop l.r-index l.records) ≡ l.initial.out.items ++ lines store_line l.records

@@ -1,21 +1,12 @@
--- `report::refuse` meets its contract: the line is put, and delivered.
-use Prim.Native.Nat.{ℕ}
+-- `report::refuse` meets its contract: a line of JOB and a number is shorter than 32 bytes.
+use mathlib.Core.List.{[], ◌∷◌}
 use native.Mathlib.Omega.{arith}
-use lib.ListN.{replicate}
-use Rattle.lists.specs.Text.{ascii}
-use Rattle.report.specs.Lines.{Room, job_line}
-use Rattle.report.proofs.Joining.{put_front}
-use Rattle.report.proofs.Lengths.{number_length}
+use lib.ListN.{length-append}
+use Rattle.text.specs.Text.{decimal_of}
+use Rattle.text.proofs.Digits.{decimal_fits}
 use Rattle.report.proofs.refuse.Goals as goal
 
-room : (number : ℕ) → Room (replicate 32 0) 0 (job_line number)
-room number = record { fits = omega (arith, number_length (ascii "JOB") number) }
-
-pub put_number-n-requires : goal.put_number-n-requires
-put_number-n-requires c = room _
-
-pub deliver-requires : goal.deliver-requires
-deliver-requires c = (put_front (room _) c.put_number-n.ensures).1
-
-pub returns : goal.returns
-returns c = rw (put_front (room _) c.put_number-n.ensures).0 at c.deliver.ensures
+pub put_number-requires : goal.put_number-requires
+put_number-requires c =
+    let n = c.args.number in
+    (omega arith, rw c.new-line.ensures (omega (arith, decimal_fits 20 n, length-append (decimal_of n) (0x0A ∷ []))))

@@ -1,21 +1,19 @@
 -- What each turn of `resolver::resolve_all` keeps.
-use Rattle.std.proofs.Common.{◌≡◌, ℕ, suc, ◌-◌, ◌≤◌, List, length}
-use Rattle.lists.specs.Lists.{scan}
-use Rattle.address_set.specs.Map.{has}
-use Rattle.tracker.specs.declared.Registers.{Registers}
-use Rattle.resolver.specs.declared.Seen.{Seen}
+use Rattle.std.proofs.Common.{◌≡◌, ℕ, ◌++◌, ◌<◌, length}
+use Rattle.address_set.specs.Map.{members_in}
+use Rattle.address_set.specs.Next.{left}
+use Rattle.tracker.specs.Track.{unloaded}
 use Rattle.resolver.specs.declared.Seen.TheVariants.{Never}
-use Rattle.resolver.specs.Resolve.{resolve, unloaded, seen_at}
+use Rattle.resolver.specs.Resolve.{resolve, seen_at}
 use Rattle.resolver.proofs.resolve_all.Given as goal
 
--- what the members from `from` on say of the byte z, after what is known already
-abbrev pub onward : (image map : List ℕ) (load last from z : ℕ) → Registers → Seen → Seen
-onward image map load last from z = resolve image load z (scan (has map) from (suc last - from))
-
+-- what the members that are left say of a byte, after what is known already, is what all members say of it
 abbrev pub invariant-loop-a : goal.invariant-loop-a
 invariant-loop-a l =
-    (l.load ≤ l.from) × (length l.states ≡ 256)
-    × ((z : ℕ) → onward l.image l.map l.load l.last l.from z l.regs (seen_at l.states l.values z) ≡ onward l.image l.map l.load l.last l.load z unloaded Never)
-
-abbrev pub decreases-loop-a : goal.decreases-loop-a
-decreases-loop-a l = suc l.last - l.from
+    let all = members_in l.image.bounds.load l.image.bounds.last l.map in
+    let known = λ (z : ℕ). resolve l.image.bytes.now l.image.bounds.load z in
+    record {
+      met : l.yielded ++ left l.a-iterator ≡ all;
+      size : length l.seen ≡ 256;
+      each : (z : ℕ) → z < 256 → known z (left l.a-iterator) l.regs (seen_at l.seen z) ≡ known z all unloaded Never;
+    }

@@ -1,34 +1,36 @@
 -- What each turn of `stores::gather` keeps.
 use mathlib.Core.Path.{◌≡◌}
-use mathlib.Core.Bool.{Bool}
-use mathlib.Core.List.{List}
-use Prim.Native.Nat.{ℕ, suc, ◌-◌, ◌≤◌}
-use Rattle.lists.proofs.Filling.{Filled}
+use mathlib.Core.List.{List, ◌++◌}
+use Prim.Native.Nat.{ℕ, ◌-◌, ◌≤◌}
+use Rattle.lists.specs.Lists.{◌∈◌}
 use Rattle.mos6502.specs.Class.{manual_class}
-use Rattle.image.specs.declared.Bounds.{Bounds}
 use Rattle.writes.specs.Writes.{manual_writes}
+use Rattle.image.specs.declared.placed.Image.{Image}
+use Rattle.address_set.specs.Map.{members_in}
+use Rattle.address_set.specs.Next.{left}
 use Rattle.tracker.specs.Track.{Reached, state_of}
 use Rattle.pages.specs.declared.StoreSpan.{StoreSpan}
-use Rattle.pages.proofs.Members.{members_from}
 use Rattle.stores.specs.Stores.{store_at, unbounded, records_over}
 use Rattle.stores.proofs.gather.Given as goal
 
--- what each member stores
-abbrev pub stores : (image : List ℕ) (bounds : Bounds) (map : List ℕ) → ℕ → StoreSpan
-stores image bounds map = store_at manual_class manual_writes image bounds.load bounds.last (members_from map bounds.last bounds.load)
+-- the members that lie in the image, and what each of them stores
+abbrev pub members : Image → (map : List ℕ) → List ℕ
+members image map = members_in image.bounds.load image.bounds.last map
 
--- the records of the members from `from` on, and whether one of these is bounded by nothing
-abbrev pub records_from_here : (image : List ℕ) (bounds : Bounds) (map : List ℕ) (from : ℕ) → List ℕ
-records_from_here image bounds map from = records_over (stores image bounds map) (members_from map bounds.last from)
+abbrev pub stores : Image → (map : List ℕ) → ℕ → StoreSpan
+stores image map = store_at manual_class manual_writes image.bytes.now image.bounds.load image.bounds.last (members image map)
 
-abbrev pub unbounded_from : (image : List ℕ) (bounds : Bounds) (map : List ℕ) (from : ℕ) → Bool
-unbounded_from image bounds map from = unbounded (stores image bounds map) (members_from map bounds.last from)
-
+-- The records are those of the members met, and none of these is bounded by nothing. Each member that is left lies in the image, and the tracker, which stands no
+-- further than any of them, can go on to it.
 abbrev pub invariant-loop-a : goal.invariant-loop-a
 invariant-loop-a l =
-    (l.bounds.load ≤ l.from) × Filled (records_from_here l.image l.bounds l.map l.bounds.load) (records_from_here l.image l.bounds l.map l.from) l.initial.found l.found l.n
-    × (unbounded_from l.image l.bounds l.map l.from ≡ unbounded_from l.image l.bounds l.map l.bounds.load)
-    × Reached l.image l.place.at (state_of l.place.regs l.zp l.marks) × (l.place.at ≤ l.from - l.bounds.load)
-
-abbrev pub decreases-loop-a : goal.decreases-loop-a
-decreases-loop-a l = suc l.bounds.last - l.from
+    let store = stores l.image l.map in
+    let all = members l.image l.map in
+    let ahead = left l.a-iterator in
+    record {
+      gathered : l.records.items ++ records_over store ahead ≡ records_over store all;
+      bounded : unbounded store ahead ≡ unbounded store all;
+      reached : Reached l.image.bytes.now l.place.at (state_of l.place.regs l.zp);
+      within : (b : ℕ) → b ∈ ahead → (l.image.bounds.load ≤ b) × (b ≤ l.image.bounds.last);
+      by : (b : ℕ) → b ∈ ahead → l.place.at ≤ b - l.image.bounds.load;
+    }

@@ -1,93 +1,70 @@
 -- `stores::write_extent` meets its contract: each of its ways out is one of the answers.
 use mathlib.Core.Bool.{true}
-use mathlib.Core.Path.{◌≡◌, refl, sym, subst, ◌∙◌}
+use mathlib.Core.Path.{◌≡◌, refl, sym, ◌∙◌}
 use Prim.Native.Nat.{ℕ}
-use native.Mathlib.Omega.{arith}
-use lib.ListN.{replicate, length-replicate}
+use lib.ListN.{length-replicate}
+use Rattle.std.specs.Prelude.{Ok}
+use Rattle.std.proofs.lemmas.Result.{err_from_is_err_and}
 use Rattle.address_set.proofs.Laws.{empty_has}
 use Rattle.opening.specs.Opening.{all_inside}
-use Rattle.opening.specs.declared.Opening.{Opening}
-use Rattle.opening.specs.declared.Opening.TheVariants.{At}
-use Rattle.opening.proofs.First.{Opens, opened_as, without_image, without_entries, above_top, image_lies}
-use Rattle.walk.proofs.Possible.{refused≢finished, spent≢finished}
-use Rattle.stores.specs.declared.Gathered.{Gathered}
-use Rattle.stores.specs.declared.Gathered.TheVariants.{Records}
-use Rattle.stores.specs.Steps.{GathersIn}
-use Rattle.stores.proofs.Outcome.{outside, stopped, filled, Reached, reached, gather_members, gather_room, no_bound, gathered_there, too_short, copied}
+use Rattle.opening.proofs.First.{Opens, opened_as}
+use Rattle.walk.specs.declared.Rule.TheVariants as rule
+use Rattle.walk.specs.Walked.{Walked}
+use Rattle.stores.proofs.Outcome.{outside, not_finished, Reached, reached, gather_room, no_bound, too_short, copied}
 use Rattle.stores.proofs.write_extent.Goals as goal
-use Rattle.stores.proofs.write_extent.Goals.{After-open, After-walk, In-At, In-Finished, In-Records}
+use Rattle.stores.proofs.write_extent.Goals.{In_ok-opened, After-walk, In_ok-finished, In_ok-records}
 
--- where the first tests are made
-module _ (o : After-open) where
-  opened_at : {r : Opening} → o.«open».result ≡ r → Opens o.args.image.now o.args.load o.args.entries.now r
-  opened_at e = opened_as _ _ _ o.«open».ensures e
-
--- where the bounds are known
-module _ (b : In-At) where
-  opened : Opens b.args.image.now b.args.load b.args.entries.now (At b.in-At.bounds)
-  opened = opened_at (goal.at.In-At b).After-open b.in-At.is
+-- where the image is at its place
+module _ (c : In_ok-opened) where
+  opens : Opens c.args.image.now c.args.load c.args.entries.now (Ok c.in_ok-opened.opened.bounds)
+  opens = opened_as _ _ _ c.in_ok-opened.ensures.bounds refl
 
 pub returns-then-not-all_inside : goal.returns-then-not-all_inside
-returns-then-not-all_inside c = outside _ _ _ _ (opened (goal.at.returns-then-not-all_inside c).In-At) (sym c.all_inside.ensures ∙ c.if-not-all_inside.true)
-
--- where the walk has ended
-module _ (w : After-walk) where
-  all_in : all_inside w.in-At.bounds.load w.in-At.bounds.last w.args.entries.now ≡ true
-  all_in = sym w.all_inside.ensures ∙ w.if-not-all_inside.false
+returns-then-not-all_inside c = outside _ _ _ _ (opens (goal.at.returns-then-not-all_inside c).In_ok-opened) (sym c.all_inside.ensures ∙ c.if-not-all_inside.true)
 
 pub walk-requires : goal.walk-requires
-walk-requires c = (image_lies _ _ _ (opened (goal.at.walk-requires c).In-At), record { size = length-replicate {A = ℕ} 8192 0; none = empty_has 8192 })
+walk-requires c = record { size = length-replicate {A = ℕ} 8192 0; none = empty_has 8192 }
+
+-- where the walk has ended
+module _ (c : After-walk) where
+  all_in : all_inside c.in_ok-opened.opened.bounds.load c.in_ok-opened.opened.bounds.last c.args.entries.now ≡ true
+  all_in = sym c.all_inside.ensures ∙ c.if-not-all_inside.false
+
+  walked : Walked rule.Stores c.args.image.now c.in_ok-opened.opened.bounds.load c.in_ok-opened.opened.bounds.last c.args.entries.now c.walk.result c.walk.new.map
+  walked = rw c.in_ok-opened.ensures.bytes at c.walk.ensures
+
+pub returns-in_err-finished : goal.returns-in_err-finished
+returns-in_err-finished c =
+    let w = (goal.at.returns-in_err-finished c).After-walk in
+    let p = err_from_is_err_and c.from_residual-in_err-finished.result c.from_residual-in_err-finished.ensures.1 in
+    rw (p.1, p.2)
+    (not_finished _ _ _ _ c.walk.result (opens (goal.at.returns-in_err-finished c).In_ok-opened) (all_in w) (walked w) (sym c.finished.ensures ∙ c.in_err-finished.was))
 
 -- where it has finished
-module _ (done : In-Finished) where
-  known : Reached done.args.image.now done.args.load done.args.entries.now done.args.slots.now
-      done.in-At.bounds done.walk.new.map
-  known = reached _ _ _ _ (opened (goal.at.In-Finished done).In-At) (all_in (goal.at.In-Finished done).After-walk) (rw done.in-Finished.is at done.walk.ensures)
+module _ (c : In_ok-finished) where
+  known : Reached c.args.image.now c.args.load c.args.entries.now c.args.slots.now c.in_ok-opened.opened.bounds c.walk.new.map
+  known =
+      let w = (goal.at.In_ok-finished c).After-walk in
+      reached _ _ _ _ c.walk.result (opens (goal.at.In_ok-finished c).In_ok-opened) (all_in w) (walked w) (sym c.finished.ensures ∙ c.in_ok-finished.was)
 
-pub gather_all-requires : goal.gather_all-requires
-gather_all-requires c = (image_lies _ _ _ (opened (goal.at.gather_all-requires c).In-At), gather_members _ _ _ _ (known (goal.at.gather_all-requires c).In-Finished), gather_room _ _ _ _ (known (goal.at.gather_all-requires c).In-Finished))
+pub gather-requires : goal.gather-requires
+gather-requires c = gather_room _ _ _ _ (known (goal.at.gather-requires c).In_ok-finished)
 
--- where the records are gathered
-module _ (k : In-Records) where
-  -- what was gathered, whichever answer it is
-  abbrev Gathered-as : Gathered → Type 0
-  Gathered-as r =
-      GathersIn k.args.image.now k.in-At.bounds.load k.in-At.bounds.last
-      k.walk.new.map (replicate 4096 0) k.gather_all.new.found r
+pub returns-in_err-records : goal.returns-in_err-records
+returns-in_err-records c =
+    let p = err_from_is_err_and c.from_residual-in_err-records.result c.from_residual-in_err-records.ensures.1 in
+    rw (p.1, p.2)
+    (no_bound _ _ _ _ (known (goal.at.returns-in_err-records c).In_ok-finished) (rw c.in_ok-opened.ensures.bytes at c.in_err-records.ensures))
 
-  records : Gathered-as (Records k.in-Records.n)
-  records = subst Gathered-as k.in-Records.is k.gather_all.ensures
+pub returns-then-slots-count : goal.returns-then-slots-count
+returns-then-slots-count c =
+    let count = c.len-count.ensures.value in
+    let k = known (goal.at.returns-then-slots-count c).In_ok-finished in
+    rw count (too_short _ _ _ _ k (rw c.in_ok-opened.ensures.bytes at c.in_ok-records.ensures) (rw count at c.if-slots-count.true))
 
-pub returns-then-slots-n : goal.returns-then-slots-n
-returns-then-slots-n c = too_short _ _ _ _ (known (goal.at.returns-then-slots-n c).In-Finished) _ _ (records (goal.at.returns-then-slots-n c).In-Records) c.if-slots-n.true
-
-pub copy-requires : goal.copy-requires
-copy-requires c = (gathered_there _ _ _ _ (known (goal.at.copy-requires c).In-Finished) _ _ (records (goal.at.copy-requires c).In-Records), omega arith)
-
-pub returns-in-ImageEmpty : goal.returns-in-ImageEmpty
-returns-in-ImageEmpty c = (without_image _ _ _ (opened_at (goal.at.returns-in-ImageEmpty c).After-open c.in-ImageEmpty.is), refl)
-
-pub returns-in-NoEntries : goal.returns-in-NoEntries
-returns-in-NoEntries c =
-    let told = without_entries _ _ _ (opened_at (goal.at.returns-in-NoEntries c).After-open c.in-NoEntries.is) in
-    (told.0, told.1, refl)
-
-pub returns-in-PastTop : goal.returns-in-PastTop
-returns-in-PastTop c =
-    let told = above_top _ _ _ (opened_at (goal.at.returns-in-PastTop c).After-open c.in-PastTop.is) in
-    (told.0, told.1, told.2, refl)
-
-pub returns-in-Unbounded : goal.returns-in-Unbounded
-returns-in-Unbounded c = no_bound _ _ _ _ (known (goal.at.returns-in-Unbounded c).In-Finished) (replicate 4096 0) c.gather_all.new.found (rw c.in-Unbounded.is at c.gather_all.ensures)
-
-pub returns-else-slots-n : goal.returns-else-slots-n
-returns-else-slots-n c = copied _ _ _ _ (known (goal.at.returns-else-slots-n c).In-Finished) _ _ (records (goal.at.returns-else-slots-n c).In-Records) (omega arith) c.copy.ensures
-
-pub returns-in-Refused : goal.returns-in-Refused
-returns-in-Refused c = stopped _ _ _ _ (opened (goal.at.returns-in-Refused c).In-At) (rw c.in-Refused.is at c.walk.ensures) refused≢finished
-
-pub returns-in-Spent : goal.returns-in-Spent
-returns-in-Spent c = stopped _ _ _ _ (opened (goal.at.returns-in-Spent c).In-At) (rw c.in-Spent.is at c.walk.ensures) spent≢finished
-
-pub returns-in-Full : goal.returns-in-Full
-returns-in-Full c = filled _ _ _ _ (opened (goal.at.returns-in-Full c).In-At) (all_in (goal.at.returns-in-Full c).After-walk) (rw c.in-Full.is at c.walk.ensures)
+pub returns : goal.returns
+returns c =
+    let count = c.len-count.ensures.value in
+    let k = known (goal.at.returns c).In_ok-finished in
+    rw (count, c.copy_from_slice.ensures.after, c.as_slice.ensures.value)
+    (copied _ _ _ _ k (rw c.in_ok-opened.ensures.bytes at c.in_ok-records.ensures) (rw count at c.if-slots-count.false) refl)

@@ -4,13 +4,10 @@ use native.Mathlib.Omega.{arith}
 use Rattle.tracker.proofs.Passage.{pass_two, pass_one, at_end}
 use Rattle.tracker.proofs.advance.Goals as goal
 
-pub loop-at-init : goal.loop-at-init
-loop-at-init c = c.requires
-
 pub loop-at-preserved-then-is_tracked : goal.loop-at-preserved-then-is_tracked
 loop-at-preserved-then-is_tracked c =
     let passed = pass_two _ _ _ c.loop-at.invariant.0 (sym c.is_tracked.ensures ∙ c.if-is_tracked.true) in
-    (rw (c.loaded-regs.ensures, c.store.ensures.0, c.store.ensures.1, c.stored.ensures) passed, omega arith, c.loop-at.invariant.2)
+    (rw (c.loaded-regs.ensures, c.store.ensures, c.stored.ensures) passed, omega arith, c.loop-at.invariant.2)
 
 pub loop-at-preserved : goal.loop-at-preserved
 loop-at-preserved c = (pass_one _ _ _ c.loop-at.invariant.0 (omega arith) (sym c.is_tracked.ensures ∙ c.if-is_tracked.false), omega arith, c.loop-at.invariant.2)

@@ -1,9 +1,7 @@
 -- `weights::count_entry` meets its contract: the map has what the walk of the entry alone is asked about, so the slots raised are those that it records.
-use mathlib.Core.Path.{◌≡◌, refl, sym, fun_ext, ◌∙◌}
-use mathlib.Core.List.{List, [], ◌∷◌}
+use mathlib.Core.Path.{◌≡◌, sym, fun_ext, ◌∙◌}
 use Prim.Native.Nat.{ℕ}
-use native.Mathlib.Omega.{arith}
-use lib.ListN.{length, get_or, length-replicate}
+use lib.ListN.{length-replicate}
 use Rattle.address_set.specs.Map.{has}
 use Rattle.address_set.proofs.Laws.{empty_has}
 use Rattle.walk.specs.Walked.{as_end}
@@ -12,12 +10,12 @@ use Rattle.weights.proofs.count_entry.Goals as goal
 use Rattle.weights.proofs.count_entry.Goals.{Joined-not-inside, then-not-inside, else-not-inside}
 
 pub walk-end-requires : goal.walk-end-requires
-walk-end-requires c = (c.requires.0, record { size = length-replicate {A = ℕ} 8192 0; none = empty_has 8192 })
+walk-end-requires c = record { size = length-replicate {A = ℕ} 8192 0; none = empty_has 8192 }
 
 -- where the ways past the insertion meet, the map has what the walk is asked about
 concerned : (c : Joined-not-inside)
     → let a = c.args in
-    (b : ℕ) → has c.if-not-inside.map b ≡ concerns a.bounds.load a.bounds.last (get_or a.entry.now 0 0) c.walk-end.ensures.met b
+    (b : ℕ) → has c.if-not-inside.map b ≡ concerns a.image.bounds.load a.image.bounds.last a.entry c.walk-end.ensures.met b
 concerned c =
     let asked = sym c.inside.ensures in
     let walked = c.walk-end.ensures in
@@ -26,16 +24,10 @@ concerned c =
       | else-not-inside w ↦ rw w.map-is (entry_inside walked _ (asked ∙ w.if-not-inside.false))
     ]
 
--- a list of one entry
-single : (l : List ℕ) → length l ≡ 1 → l ≡ get_or l 0 0 ∷ []
-single [] h = absurd (omega arith)
-single (x ∷ []) h = refl
-single (x ∷ y ∷ l) h = absurd (omega arith)
-
 pub returns : goal.returns
 returns c = record {
   end = as_end c.walk-end.result;
   met = c.walk-end.ensures.met;
-  walk = rw (single c.args.entry.now c.requires.1) at c.walk-end.ensures.walk;
+  walk = c.walk-end.ensures.walk;
   exact = rw (c.undecoded_of.ensures, fun_ext (concerned (goal.at.returns c).Joined-not-inside)) at c.raise_recorded.ensures;
 }

@@ -1,12 +1,8 @@
--- What each turn of `weights::fill_weights` keeps.
-use Prim.Native.Nat.{◌≤◌}
-use lib.ListN.{length, drop}
+-- What each turn of `weights::fill_weights` keeps: the slots are raised by what the entries so far weigh.
+use lib.ListN.{take}
 use Rattle.weights.specs.Weights.{Filled}
 use Rattle.weights.proofs.fill_weights.Given as goal
 
-abbrev pub invariant-loop-i : goal.invariant-loop-i
-invariant-loop-i l =
-    (l.i ≤ length l.entries) × Filled l.image l.bounds.load l.bounds.last (drop l.i l.entries) l.initial.slots l.slots
-
-abbrev pub decreases-loop-i : goal.decreases-loop-i
-decreases-loop-i l = l.i
+abbrev pub invariant-loop-entry : goal.invariant-loop-entry
+invariant-loop-entry l =
+    Filled l.image.bytes.now l.image.bounds.load l.image.bounds.last (take l.entry-index l.entries) l.initial.slots l.slots

@@ -1,2 +1,0 @@
--- The laws of the resolver.
-pub mod Passing

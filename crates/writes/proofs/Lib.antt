@@ -1,2 +1,0 @@
--- The table of widths.
-pub mod Table
