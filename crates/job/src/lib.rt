@@ -226,7 +226,8 @@ pub fn write_job(
     image: &[u8],
     out: &mut [u8],
 ) -> Result<usize, WriteError>
-    ensures { (result ≡ written_of (job_for load entries.now image.now) (length out.old)) × (out.new ≡ job_in (job_bytes load entries.now image.now) out.old result) }
+    ensures { (result ≡ written_of (job_for load entries.now image.now) (length out.old))
+        × (out.new ≡ job_in (job_bytes load entries.now image.now) out.old result) }
 {
     let count = entries.len();
     let job = Job {

@@ -5,7 +5,8 @@
 ghost use Rattle.std.specs.Prelude.{◌≡◌, [], ◌∷◌, ◌++◌, Some, codes, decimal};
 ghost use Rattle.cause.specs.Cause.{slug_of};
 ghost use Rattle.text.specs.Text.{hex_of, decimal_of, Room};
-ghost use Rattle.report.specs.Lines.{none, number_line, span_line, held_word, pointer_word, flag_words, cause_words, record_line, lines, count_words, summary_line, diag_lines, store_line, stores_lines, job_line};
+ghost use Rattle.report.specs.Lines.{none, number_line, span_line, held_word, pointer_word, flag_words, cause_words};
+ghost use Rattle.report.specs.Lines.{record_line, lines, count_words, summary_line, diag_lines, store_line, stores_lines, job_line};
 ghost use Rattle.report.specs.Report.{Enough, EnoughStores, Tells, TellsAll, Delivers, Reports};
 
 use arrayvec::ArrayVec;

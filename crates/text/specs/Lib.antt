@@ -1,2 +1,2 @@
--- Numbers as text, and text in a lent buffer.
+-- Numbers as text, and the room that a text needs.
 pub mod Text
