@@ -14,6 +14,7 @@ use Rattle.lists.proofs.Tests.{fail}
 use Rattle.mos6502.specs.Class.{manual_class}
 use Rattle.image.specs.Image.{inside}
 use Rattle.address_set.specs.Map.{has, members_in, Within}
+use Rattle.address_set.proofs.Laws.{members_from_lem}
 use Rattle.cause.specs.declared.RefusalCause.TheVariants.{Budget, EntryOutside}
 use Rattle.site.specs.declared.Causes.{Causes}
 use Rattle.site.specs.declared.Causes.TheVariants.{Clear, One, Two}
@@ -23,7 +24,7 @@ use Rattle.recorder.specs.declared.Pair.{Pair}
 use Rattle.recorder.specs.Recorded.{causes_at, pairs_at, pairs_over}
 use Rattle.recorder.specs.Records.{record_of, records_of}
 
--- the range has all members
+-- the range has all members: none stands before its first address, and none behind its last
 pub members_all : {first last : ℕ} {map : List ℕ} → Within first last map → last < 65536 → scan (has map) 0 65536 ≡ members_in first last map
 members_all {first} {last} {map} within top = by (dec_lt (suc last) first)
   where
@@ -32,8 +33,8 @@ members_all {first} {last} {map} within top = by (dec_lt (suc last) first)
         scan_none (has map) 0 65536 (λ b p q. fail (has map b) (λ t. omega (arith, within.each b t)))
         ∙ sym (scan_none (has map) first (suc last - first) (λ b p q. absurd (omega arith)))
     by (no some) =
-        scan_within (has map) 0 first (suc last) 65536 (omega arith) (omega arith) (omega arith)
-        (λ b p q t. ((within.each b t).0, omega (arith, within.each b t)))
+        members_from_lem within (omega arith)
+        ∙ scan_within (has map) first first (suc last) (65536 - first) (omega arith) (omega arith) (omega arith) (λ b p q t. (p, omega (arith, within.each b t)))
 
 module _ (image : List ℕ) (load last : ℕ) (undecoded : Option ℕ) where
   -- the pairs of some addresses

@@ -9,7 +9,7 @@ use Rattle.std.specs.Int.{from_bool}
 use Rattle.cause.specs.Cause.{number_of}
 use Rattle.cause.proofs.Numbers.{cause_small}
 use Rattle.records.specs.declared.Fields.{Fields}
-use Rattle.records.specs.Packed.{packed, address_of, cause_of, opcode_of, pointer_of, linear_of, walk_of, weight_of}
+use Rattle.records.specs.Packed.{packed, address_of, cause_of, opcode_of, pointer_byte_of, pointer_of, linear_of, walk_of, weight_of}
 
 -- the numbers that fit their fields, as the code's types say
 pub record Sized (f : Fields) : Type 0 where
@@ -39,6 +39,7 @@ pub record Unpacks (f : Fields) (r : ℕ) : Type 0 where
   pub cause : cause_of r ≡ number_of f.cause
   pub opcode : opcode_of r ≡ f.opcode
   pub pointer : pointer_of r ≡ f.pointer
+  pub byte : pointer_byte_of r ≡ unwrap_or f.pointer 0
   pub linear : linear_of r ≡ f.linear
   pub walk : walk_of r ≡ f.walk
   pub weight : weight_of r ≡ f.weight
@@ -56,6 +57,7 @@ module _ (f : Fields) (sized : Sized f) where
         cause = omega arith;
         opcode = omega arith;
         pointer = pointer_reads _ _ f.pointer (omega arith) (omega arith);
+        byte = omega arith;
         linear = bit_reads _ f.linear (omega arith);
         walk = bit_reads _ f.walk (omega arith);
         weight = omega arith;

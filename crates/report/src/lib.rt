@@ -234,7 +234,7 @@ fn deliver(text: &[u8], out: &mut [u8]) -> Result<usize, TooShort>
     if out.len() < needed {
         return Err(TooShort { needed });
     }
-    out[..needed].copy_from_slice(text);
+    text::put_at(out, 0, text);
     Ok(needed)
 }
 
@@ -247,9 +247,11 @@ fn refuse(number: u8, out: &mut [u8]) -> Result<usize, TooShort>
     deliver(line.as_slice(), out)
 }
 
-// The four answers to a job, one after the other.
-fn answers(image: &[u8], load: u16, entries: &[u16]) -> ArrayVec<u8, MOST_TEXT>
-    ensures { Tells image.now load entries.now result.items }
+// The four answers to a job, one after the other, into a text that is lent empty. It is lent and not given, since it is large: given,
+// it would be copied, and stand on the stack more than once.
+fn put_answers(text: &mut ArrayVec<u8, MOST_TEXT>, image: &[u8], load: u16, entries: &[u16])
+    requires { text.old.items ≡ [] }
+    ensures { Tells image.now load entries.now text.new.items }
 {
     let mut refusals = [0u64; 5122];
     let mut spans = [0u32; 4096];
@@ -257,19 +259,19 @@ fn answers(image: &[u8], load: u16, entries: &[u16]) -> ArrayVec<u8, MOST_TEXT>
     let guarded = span::guarded_span(image, load, entries);
     let diag = diagnosis::diagnose(image, load, entries, &mut refusals);
     let written = stores::write_extent(image, load, entries, &mut spans);
-    let mut text = ArrayVec::new();
-    put_span(&mut text, b"SPAN", plain);
-    put_span(&mut text, b"GUARDED", guarded);
-    put_diag(&mut text, diag, &refusals);
-    put_extent(&mut text, written, &spans);
-    text
+    put_span(text, b"SPAN", plain);
+    put_span(text, b"GUARDED", guarded);
+    put_diag(text, diag, &refusals);
+    put_extent(text, written, &spans);
 }
 
 // The text of the four answers, delivered.
 fn answer(image: &[u8], load: u16, entries: &[u16], out: &mut [u8]) -> Result<usize, TooShort>
     ensures { TellsAll image.now load entries.now out.old out.new result }
 {
-    deliver(answers(image, load, entries).as_slice(), out)
+    let mut text = ArrayVec::new();
+    put_answers(&mut text, image, load, entries);
+    deliver(text.as_slice(), out)
 }
 
 // The report of a job, as one text.

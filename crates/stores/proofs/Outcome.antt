@@ -5,7 +5,6 @@ use mathlib.Core.Bool.{true, false}
 use mathlib.Core.List.{List, ◌++◌}
 use Prim.Native.Nat.{ℕ, suc, ◌-◌, ◌≤◌, ◌<◌}
 use lib.ListN.{length, drop}
-use Rattle.arrayvec.specs.ArrayVec.{ArrayVec}
 use Rattle.std.specs.Prelude.{Result, Ok, Err}
 use Rattle.refusal.specs.declared.Refusal.{Refusal}
 use Rattle.refusal.specs.declared.Refusal.TheVariants.{Refused, Short, Full}
@@ -85,18 +84,18 @@ module _ (image : List ℕ) (load : ℕ) (entries slots : List ℕ) where
     gather_room = rw (k.at_load, k.at_last) k.reaches.few
 
     -- a store that nothing bounds
-    pub no_bound : {r : Refusal} → GathersIn image b.load b.last map (Err r) → AnswersWith slots (Err r)
-    no_bound g = rw g.0 (members_in load (last image load) map, k.reaches, rw (k.at_load, k.at_last) at g.1, refl)
+    pub no_bound : (records : List ℕ) {r : Refusal} → GathersIn image b.load b.last map records (Err r) → AnswersWith slots (Err r)
+    no_bound records g = rw g.0 (members_in load (last image load) map, k.reaches, rw (k.at_load, k.at_last) at g.1, refl)
 
-    module _ {records : ArrayVec ℕ} (g : GathersIn image b.load b.last map (Ok records)) where
-      gathers : GathersIn image load (last image load) map (Ok records)
+    module _ {records : List ℕ} (g : GathersIn image b.load b.last map records (Ok tt)) where
+      gathers : GathersIn image load (last image load) map records (Ok tt)
       gathers = rw (k.at_load, k.at_last) at g
 
       -- a list too short
-      pub too_short : length slots < length records.items → AnswersWith slots (Err (Short (length records.items)))
+      pub too_short : length slots < length records → AnswersWith slots (Err (Short (length records)))
       too_short h = (members_in load (last image load) map, k.reaches, gathers.0, ap length gathers.1, h, refl)
 
       -- the records, copied
-      pub copied : {slots' : List ℕ} → length records.items ≤ length slots → slots' ≡ records.items ++ drop (length records.items) slots
-          → AnswersWith slots' (Ok (length records.items))
+      pub copied : {slots' : List ℕ} → length records ≤ length slots → slots' ≡ records ++ drop (length records) slots
+          → AnswersWith slots' (Ok (length records))
       copied h e = (members_in load (last image load) map, k.reaches, gathers.0, ap length gathers.1, h, e ∙ rw gathers.1)

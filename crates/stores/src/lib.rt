@@ -2,7 +2,7 @@
 
 #![tactic(auto)]
 
-ghost use Rattle.std.specs.Prelude.{◌≡◌, ◌++◌, ◌+◌, ◌≤◌, length};
+ghost use Rattle.std.specs.Prelude.{◌≡◌, [], ◌++◌, ◌+◌, ◌≤◌, length};
 ghost use Rattle.mos6502.specs.Class.{manual_class};
 ghost use Rattle.writes.specs.Writes.{manual_writes};
 ghost use Rattle.address_set.specs.Map.{members_in};
@@ -53,16 +53,17 @@ fn put(records: &mut Records, store: StoreSpan)
     }
 }
 
-// The records of the map's members, ascending; refused where a store has no bounded span. One pass of the tracker serves all of them.
-fn gather(image: Image<'_>, map: &[u8; 8192]) -> Result<Records, Refusal>
-    requires { length (members_in image.bounds.load image.bounds.last map.now) ≤ 4096 }
-    ensures { GathersIn image.entry.bytes.now image.entry.bounds.load image.entry.bounds.last map.now result }
+// The records of the map's members, ascending, into a list that is lent empty; refused where a store has no bounded span. One pass of the tracker serves all of
+// them. The list is lent and not given, since it is large: given, it would be copied, and stand on the stack more than once.
+fn gather(image: Image<'_>, map: &[u8; 8192], records: &mut Records) -> Result<(), Refusal>
+    requires empty { records.old.items ≡ [] }
+    requires room { length (members_in image.bounds.load image.bounds.last map.now) ≤ 4096 }
+    ensures { GathersIn image.entry.bytes.now image.entry.bounds.load image.entry.bounds.last map.now records.new.items result }
 {
     let bounds = image.bounds;
     let survey = Survey::of(image, map);
     let mut zp: [Option<u8>; 256] = [None; 256];
     let mut place = Place::start();
-    let mut records = Records::new();
     for a in address_set::members_in(map, bounds.load, bounds.last) {
         place = tracker::advance(image.bytes, (a - bounds.load) as usize, place, &mut zp);
         let s = site::site_at(image, a);
@@ -73,9 +74,9 @@ fn gather(image: Image<'_>, map: &[u8; 8192]) -> Result<Records, Refusal>
         if is_anywhere(store) {
             return Err(Refusal::Unbounded);
         }
-        put(&mut records, store);
+        put(records, store);
     }
-    Ok(records)
+    Ok(())
 }
 
 // The spans that the stores reachable from `entries` can cover, as low x 65,536 + high. The lent list gets them in its first slots, or is left as it was.
@@ -93,7 +94,8 @@ pub fn write_extent(
     }
     let mut map = [0u8; 8192];
     walk::walk(opened, entries, Rule::Stores, &mut map).finished()?;
-    let records = gather(opened, &map)?;
+    let mut records = Records::new();
+    gather(opened, &map, &mut records)?;
     let count = records.len();
     if slots.len() < count {
         return Err(Refusal::Short(count));

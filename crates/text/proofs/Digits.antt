@@ -31,14 +31,19 @@ pub hex_next : (i n : ℕ) → 0 < i → hex_of i n ≡ hex_digit (digit_at (i -
 hex_next zero n h = absurd (omega arith)
 hex_next (suc i) n h = let same : suc i - 1 ≡ i = omega arith in rw same (hex_first i n)
 
--- a digit of what is left, as the digits behind it are taken off
-pub digit_last : (n : ℕ) → digit_at 0 n ≡ n % 16
+-- a number of 16 bits has four digits, and any before them is 0
+digit_zero : (i : ℕ) → digit_at i 0 ≡ 0
 unfolding digit_at
-digit_last n = refl
+digit_zero zero = refl
+digit_zero (suc i) = digit_zero i
 
-pub digit_next : (i j n : ℕ) → i ≡ suc j → digit_at i n ≡ digit_at j (n / 16)
+pub digit_before : (i n : ℕ) → 4 ≤ i → n < 65536 → digit_at i n ≡ 0
 unfolding digit_at
-digit_next i j n e = rw e
+digit_before (suc (suc (suc (suc i)))) n h small = let none : n / 16 / 16 / 16 / 16 ≡ 0 = omega arith in rw none (digit_zero i)
+digit_before zero n h small = absurd (omega arith)
+digit_before (suc zero) n h small = absurd (omega arith)
+digit_before (suc (suc zero)) n h small = absurd (omega arith)
+digit_before (suc (suc (suc zero))) n h small = absurd (omega arith)
 
 -- a number of k + 1 digits has k before its last
 pub fewer : (k n : ℕ) → n < 10 ^ suc k → n / 10 < 10 ^ k

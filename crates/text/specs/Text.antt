@@ -1,5 +1,5 @@
 -- Numbers as text (01, "Job file and `reachreport`"): addresses and bytes in upper-case hexadecimal of a fixed width, counts in decimal. Assumes nothing.
-use Rattle.std.specs.Prelude.{cond, List, [], ◌∷◌, ◌++◌, ℕ, zero, suc, ◌+◌, ◌/◌, ◌%◌, ◌≤◌, ltb, length}
+use Rattle.std.specs.Prelude.{◌≡◌, cond, List, [], ◌∷◌, ◌++◌, ℕ, zero, suc, ◌+◌, ◌/◌, ◌%◌, ◌≤◌, ltb, length, take, drop}
 
 -- the ASCII code of a hexadecimal digit: `0` to `9`, then `A` to `F`
 abbrev pub hex_digit : ℕ → ℕ
@@ -27,3 +27,8 @@ decimal_of n = decimal_by 20 n
 -- behind what stands there, a vector of capacity n has room for the text
 abbrev pub Room : (items text : List ℕ) (n : ℕ) → Type 0
 Room items text n = length items + length text ≤ n
+
+-- the text stands in the buffer from n on; r is the place after it, and the other bytes are as they were
+pub record Put (out : List ℕ) (n : ℕ) (text : List ℕ) (r : ℕ) (out' : List ℕ) : Type 0 where
+  pub next : r ≡ n + length text
+  pub after : out' ≡ take n out ++ text ++ drop (n + length text) out

@@ -2,8 +2,8 @@
 
 #![tactic(auto)]
 
-ghost use Rattle.std.specs.Prelude.{◌≡◌, ◌++◌, ◌<◌, ◌≤◌, length, drop};
-ghost use Rattle.text.specs.Text.{hex_digit, digit_at, hex_of, decimal_of, Room};
+ghost use Rattle.std.specs.Prelude.{◌≡◌, ◌++◌, ◌+◌, ◌<◌, ◌≤◌, length, drop};
+ghost use Rattle.text.specs.Text.{hex_digit, digit_at, hex_of, decimal_of, Room, Put};
 
 use arrayvec::ArrayVec;
 
@@ -15,6 +15,15 @@ pub fn put<const N: usize>(out: &mut ArrayVec<u8, N>, text: &[u8])
     let _ = out.try_extend_from_slice(text);
 }
 
+// Puts a text at `n` of a lent buffer, over what stands there; where the next one goes. By this a line that was made in a vector goes into a buffer of any length.
+pub fn put_at(out: &mut [u8], n: usize, text: &[u8]) -> usize
+    requires { n + length text.now ≤ length out.old }
+    ensures { Put out.old n text.now result out.new }
+{
+    out[n..n + text.len()].copy_from_slice(text);
+    n + text.len()
+}
+
 // A hexadecimal digit in ASCII.
 fn hex_digit(d: u8) -> u8
     requires { d < 16 }
@@ -23,14 +32,17 @@ fn hex_digit(d: u8) -> u8
     if d < 10 { 48 + d } else { 55 + d }
 }
 
-// The hexadecimal digit of a number with `i` digits behind it.
+// The hexadecimal digit of a number with `i` digits behind it. A number of 16 bits has four digits, and any before them is 0.
 fn digit_at(value: u16, i: usize) -> u8
     ensures { (result ≡ digit_at i value) × (result < 16) }
 {
-    let mut rest = value;
-    for _ in 0..i {
-        rest /= 16;
-    }
+    let rest = match i {
+        0 => value,
+        1 => value / 16,
+        2 => value / 256,
+        3 => value / 4096,
+        _ => 0,
+    };
     (rest % 16) as u8
 }
 

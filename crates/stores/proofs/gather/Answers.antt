@@ -24,7 +24,7 @@ loop-a-init c =
     let image = c.args.image in
     let all : left c.into_iter-a-iterator.result ≡ members image c.args.map.now = rw c.into_iter-a-iterator.ensures.into_iter_gives c.members_in-a-items.ensures in
     record {
-      gathered = rw (c.new-records.ensures, all);
+      gathered = rw (c.requires.empty, all);
       bounded = rw all;
       reached = rw (c.start-place.ensures.0, c.start-place.ensures.1) (reached_start _);
       within = rw all (member_within image.bounds.load image.bounds.last c.args.map.now);
@@ -33,7 +33,7 @@ loop-a-init c =
 
 -- all records fit
 fits : (c : Start) → length (records_over (stores c.args.image c.args.map.now) (members c.args.image c.args.map.now)) ≤ 4096
-fits c = omega (arith, c.requires, records_few (stores c.args.image c.args.map.now) (members c.args.image c.args.map.now))
+fits c = omega (arith, c.requires.room, records_few (stores c.args.image c.args.map.now) (members c.args.image c.args.map.now))
 
 -- in a turn, the member that comes next
 module _ (c : In-Some) where

@@ -12,7 +12,7 @@ use Rattle.walk.specs.declared.Rule.TheVariants as rule
 use Rattle.walk.specs.Walked.{Walked}
 use Rattle.stores.proofs.Outcome.{outside, not_finished, Reached, reached, gather_room, no_bound, too_short, copied}
 use Rattle.stores.proofs.write_extent.Goals as goal
-use Rattle.stores.proofs.write_extent.Goals.{In_ok-opened, After-walk, In_ok-finished, In_ok-records}
+use Rattle.stores.proofs.write_extent.Goals.{In_ok-opened, After-walk, In_ok-finished}
 
 -- where the image is at its place
 module _ (c : In_ok-opened) where
@@ -48,23 +48,23 @@ module _ (c : In_ok-finished) where
       reached _ _ _ _ c.walk.result (opens (goal.at.In_ok-finished c).In_ok-opened) (all_in w) (walked w) (sym c.finished.ensures ∙ c.in_ok-finished.was)
 
 pub gather-requires : goal.gather-requires
-gather-requires c = gather_room _ _ _ _ (known (goal.at.gather-requires c).In_ok-finished)
+gather-requires c = record { empty = c.new-records.ensures; room = gather_room _ _ _ _ (known (goal.at.gather-requires c).In_ok-finished) }
 
-pub returns-in_err-records : goal.returns-in_err-records
-returns-in_err-records c =
-    let p = err_from_is_err_and c.from_residual-in_err-records.result c.from_residual-in_err-records.ensures.1 in
+pub returns-in_err-gather : goal.returns-in_err-gather
+returns-in_err-gather c =
+    let p = err_from_is_err_and c.from_residual-in_err-gather.result c.from_residual-in_err-gather.ensures.1 in
     rw (p.1, p.2)
-    (no_bound _ _ _ _ (known (goal.at.returns-in_err-records c).In_ok-finished) (rw c.in_ok-opened.ensures.bytes at c.in_err-records.ensures))
+    (no_bound _ _ _ _ (known (goal.at.returns-in_err-gather c).In_ok-finished) c.gather.new.records.items (rw c.in_ok-opened.ensures.bytes at c.in_err-gather.ensures))
 
 pub returns-then-slots-count : goal.returns-then-slots-count
 returns-then-slots-count c =
     let count = c.len-count.ensures.value in
     let k = known (goal.at.returns-then-slots-count c).In_ok-finished in
-    rw count (too_short _ _ _ _ k (rw c.in_ok-opened.ensures.bytes at c.in_ok-records.ensures) (rw count at c.if-slots-count.true))
+    rw count (too_short _ _ _ _ k (rw c.in_ok-opened.ensures.bytes at c.in_ok-gather.ensures) (rw count at c.if-slots-count.true))
 
 pub returns : goal.returns
 returns c =
     let count = c.len-count.ensures.value in
     let k = known (goal.at.returns c).In_ok-finished in
     rw (count, c.copy_from_slice.ensures.after, c.as_slice.ensures.value)
-    (copied _ _ _ _ k (rw c.in_ok-opened.ensures.bytes at c.in_ok-records.ensures) (rw count at c.if-slots-count.false) refl)
+    (copied _ _ _ _ k (rw c.in_ok-opened.ensures.bytes at c.in_ok-gather.ensures) (rw count at c.if-slots-count.false) refl)
