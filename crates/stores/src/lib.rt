@@ -53,8 +53,9 @@ fn put(records: &mut Records, store: StoreSpan)
     }
 }
 
-// The records of the map's members, ascending, into a list that is lent empty; refused where a store has no bounded span. One pass of the tracker serves all of
-// them. The list is lent and not given, since it is large: given, it would be copied, and stand on the stack more than once.
+// The records of the map's members, ascending, into a list that is lent empty; refused where a store has no bounded span. One pass of
+// the tracker serves all of them. The list is lent and not given, since it is large: given, it would be copied, and stand on the stack
+// more than once.
 fn gather(image: Image<'_>, map: &[u8; 8192], records: &mut Records) -> Result<(), Refusal>
     requires empty { records.old.items ≡ [] }
     requires room { length (members_in image.bounds.load image.bounds.last map.now) ≤ 4096 }

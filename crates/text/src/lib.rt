@@ -15,7 +15,8 @@ pub fn put<const N: usize>(out: &mut ArrayVec<u8, N>, text: &[u8])
     let _ = out.try_extend_from_slice(text);
 }
 
-// Puts a text at `n` of a lent buffer, over what stands there; where the next one goes. By this a line that was made in a vector goes into a buffer of any length.
+// Puts a text at `n` of a lent buffer, over what stands there; where the next one goes. So a line that was made in a vector goes into
+// a buffer of any length.
 pub fn put_at(out: &mut [u8], n: usize, text: &[u8]) -> usize
     requires { n + length text.now ≤ length out.old }
     ensures { Put out.old n text.now result out.new }

@@ -52,8 +52,8 @@ impl Place {
     }
 }
 
-// Whether the tracker knows the opcode. With an arm for each opcode the compiler looks a byte up once; the six in one arm were compared one after the other, at up
-// to three times the time for each byte of the code.
+// Whether the tracker knows the opcode. With an arm for each the compiler looks a byte up once; six patterns in one arm it compares
+// one after the other, which takes up to three times as long for each byte of the code.
 fn is_tracked(op: u8) -> bool
     ensures { result ≡ is_tracked op }
 {

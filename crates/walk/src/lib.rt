@@ -6,7 +6,8 @@ ghost use Rattle.std.specs.Prelude.{◌≡◌, ◌≤◌, ◌<◌};
 ghost use Rattle.mos6502.specs.Class.{manual_class};
 ghost use Rattle.image.specs.Image.{inside};
 ghost use Rattle.site.specs.Site.{site_in};
-ghost use Rattle.walk.specs.Step.{goes_to, forks_to, follow, calls, is_clear, is_pointer, is_passable, is_accepted, is_outside, is_lost, leaves, accepts, step_by};
+ghost use Rattle.walk.specs.Step.{goes_to, forks_to, follow, calls, is_clear, is_pointer};
+ghost use Rattle.walk.specs.Step.{is_passable, is_accepted, is_outside, is_lost, leaves, accepts, step_by};
 ghost use Rattle.walk.specs.Walked.{outcome_of, Cleared, Walked};
 
 use arrayvec::ArrayVec;

@@ -1,4 +1,5 @@
--- `report::put_answers` meets its contract: the text is lent empty, and there is room for each of the four texts, since by `report_length` there is room for all four.
+-- `report::put_answers` meets its contract: the text is lent empty, and there is room for each of the four texts, since by
+-- `report_length` there is room for all of them.
 use mathlib.Core.Path.{◌≡◌, ap, ◌∙◌}
 use mathlib.Core.List.{◌++◌}
 use Prim.Native.Nat.{ℕ, ◌≤◌}
